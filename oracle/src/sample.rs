@@ -1,0 +1,143 @@
+//! Makes the stored list of the crate's answers; README.md says where each byte of it stands.
+
+mod cases;
+mod counts;
+mod limits;
+mod random;
+
+use crate::judge::{self, Answer, Shown};
+use crate::sheet::{Record, Sheet, DEVICE};
+use crate::VERSIONS;
+use cases::Case;
+use std::io;
+use std::path::Path;
+
+pub const SEED: u64 = 1;
+
+/// The number of a case whose difference is listed and no refusal.
+const LISTED: u8 = 255;
+
+pub fn run(file: &str, seed: u64) -> io::Result<()> {
+    let cases = cases::all(seed);
+    let mut list = header(seed, cases.len()).into_bytes();
+    let mut counts = counts::Counts::default();
+    for case in &cases {
+        let answer = judge::answer_alone(&case.sheet);
+        check(case, &answer);
+        let (sheet, output) = (case.sheet.write(), answer.printed());
+        counts.add(case, &answer);
+        list.push(case.number);
+        for part in [sheet, output] {
+            list.extend((part.len() as u32).to_le_bytes());
+            list.extend(part);
+        }
+    }
+    std::fs::write(file, &list)?;
+    counts.print();
+    println!("{} cases, {} bytes", cases.len(), list.len());
+    Ok(())
+}
+
+fn header(seed: u64, count: usize) -> String {
+    format!(
+        "Answers of defmt-decoder 1.1.0, module log::format, to session sheets.
+Made by: oracle/sample {seed}
+Run with: {VERSIONS}
+Cases: {count}
+After the first empty line, for each case: u8 N; u32 length and a session sheet; u32 length and the output. Little-endian.
+Output: what the port's program prints for the sheet if its lines are the crate's: each line and a newline, or `! 3` or
+`! 4` and a newline for the sheet; `panic` and a newline where the crate panics; `! 2` and `! 12` where it cannot be asked.
+N 0: the port prints the same.
+N 1, 2, 5 to 12: the port refuses with that number; the output is the crate's, which knows no such limit.
+N 255: no refusal, but a listed difference: a leading `.` of a path that the crate shows, a present empty file with {{f}}
+(it panics), a message that its color_diff lays out, a width with colour sequences above 65,535 (it panics).
+
+"
+    )
+}
+
+/// A case that is to be printed alike must be within every limit; a list with a wrong case is not written.
+fn check(case: &Case, answer: &Answer) {
+    let name = || String::from_utf8_lossy(&case.sheet.template).into_owned();
+    if case.number == 0 {
+        assert!(within_sizes(&case.sheet, answer), "a size is crossed: {:?}", name());
+        assert!(!answer.panicked(), "the crate panics: {:?}", name());
+        assert!(!is_listed(&case.sheet), "a listed difference: {:?}", name());
+        let known = case.known || !may_cross(&case.sheet.template);
+        assert!(known, "may cross a limit of the template: {:?}", name());
+    } else {
+        assert_eq!(case.sheet.records.len(), 1, "a difference stands alone: {:?}", name());
+    }
+}
+
+/// Sizes of document 01: template, fields, lines, the sheet; and records that it accepts.
+fn within_sizes(sheet: &Sheet, answer: &Answer) -> bool {
+    let record =
+        |r: &Record| r.is_possible() && r.fields().iter().all(|f| f.len() <= 4096 && std::str::from_utf8(f).is_ok());
+    let line = |shown: &Shown| !matches!(shown, Shown::Line(line) if line.len() > 65536);
+    let lines = match answer {
+        Answer::Read(lines) => lines.iter().all(line),
+        Answer::Refused(number) => [3, 4].contains(number),
+        Answer::Panic => false,
+    };
+    sheet.template.len() <= 1024 && sheet.records.iter().all(record) && lines && sheet.write().len() <= 65536
+}
+
+/// A template that might be refused with 5 to 10: too wide a net on purpose, but nothing slips through.
+fn may_cross(template: &[u8]) -> bool {
+    let Ok(text) = std::str::from_utf8(template) else { return true };
+    let backslash = text.ends_with('\\');
+    let touching = template.windows(2).any(|two| two[0].is_ascii_alphabetic() && two[1] >= 128);
+    let wide = text.split(|c: char| !c.is_ascii_digit()).any(|digits| digits.trim_start_matches('0').len() > 2);
+    let long = text.contains(&"f".repeat(256));
+    backslash || touching || wide || long || depth(text) > 8 || may_have_too_many(text)
+}
+
+/// Braces open at once, counted so that no closed brace stands deeper.
+fn depth(text: &str) -> usize {
+    if text.contains('\\') {
+        return text.matches('{').count();
+    }
+    let (mut open, mut most) = (0usize, 0);
+    for c in text.chars() {
+        match c {
+            '{' => open += 1,
+            '}' => open = open.saturating_sub(1),
+            _ => {}
+        }
+        most = most.max(open);
+    }
+    most
+}
+
+/// Of a template that is read the segments are counted; of a refused one the places where one may begin.
+fn may_have_too_many(text: &str) -> bool {
+    let dump = judge::segments(text.as_bytes());
+    if dump == "3" {
+        let separators = text.matches([':', '%']).count();
+        return 1 + 4 * text.matches('{').count() + 3 * separators > 64;
+    }
+    dump.matches(';').count() > 64
+}
+
+/// The differences of `LISTED`, but for the two that show as panics.
+fn is_listed(sheet: &Sheet) -> bool {
+    let dump = judge::segments(&sheet.template);
+    sheet.records.iter().any(|record| shows_leading_dot(&dump, record) || may_be_diff(record))
+}
+
+fn shows_leading_dot(dump: &str, record: &Record) -> bool {
+    let file = String::from_utf8_lossy(&record.file);
+    if file != "." && !file.starts_with("./") {
+        return false;
+    }
+    let components = Path::new(&*file).iter().count();
+    let counts = dump.split("sf").skip(1).filter_map(|rest| rest.split('[').next()?.parse::<usize>().ok());
+    counts.max().map_or(false, |count| count >= components)
+}
+
+/// A host's message is never laid out.
+fn may_be_diff(record: &Record) -> bool {
+    let text = String::from_utf8_lossy(&record.message);
+    record.source == DEVICE && text.lines().count() > 2 && text.contains(" left: `") && text.contains("right: `")
+}
