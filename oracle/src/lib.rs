@@ -2,6 +2,7 @@
 
 pub mod examples;
 pub mod judge;
+pub mod meaning;
 pub mod sample;
 pub mod sheet;
 pub mod stream;

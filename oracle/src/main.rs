@@ -1,12 +1,13 @@
 //! `pralakuon-oracle MODE`: README.md says what each mode reads and writes.
 
 use pralakuon_oracle::sheet::{Record, Sheet, COLOUR, FILE, LINE, MODULE, STRAIGHT};
-use pralakuon_oracle::{examples, judge, sample, stream, VERSIONS};
+use pralakuon_oracle::{examples, judge, meaning, sample, stream, VERSIONS};
 use std::io::{self, Read, Write};
 use std::process::ExitCode;
 
 const USAGE: &str = "usage: pralakuon-oracle lines | segments | text | examples | versions
        pralakuon-oracle sample FILE [SEED]
+       pralakuon-oracle meaning LIST CRATES FOLDER STEP
        pralakuon-oracle sheet [--colour] [--straight] --template TEXT [--record KEY=VALUE,..]..
        keys of a record: source level file line module timestamp message (the rest, commas too)";
 
@@ -22,6 +23,10 @@ fn main() -> ExitCode {
         ["sample", file] => sample::run(file, sample::SEED),
         ["sample", file, seed] => match seed.parse() {
             Ok(seed) => sample::run(file, seed),
+            Err(_) => return usage(),
+        },
+        ["meaning", list, crates, folder, step] => match step.parse() {
+            Ok(step) => meaning::run(list, crates, folder, step),
             Err(_) => return usage(),
         },
         ["sheet", ref options @ ..] => match sheet(options) {

@@ -1,0 +1,92 @@
+-- What a line call answers, and what it leaves in the lent buffer. Assumes nothing.
+use Prim.Native.Nat.{ℕ, _+_, _*_, _/_, _%_}
+use mathlib.Core.Bool.{Bool, true, false, _&&_}
+use mathlib.Core.List.{List, [], _∷_}
+use lib.Dec.{eqb, leb, ltb}
+use lib.ListN.{length}
+use Rattle.text.specs.Buffer.{putAt}
+use Rattle.text.specs.Table.{Maybe, none, some}
+use Rattle.refusals.specs.declared.Refusal.{Refusal}
+use Rattle.refusals.specs.Numbers.{number}
+use Rattle.answer.specs.declared.Answer.{Answer}
+use Rattle.colour.specs.declared.Settings.{Settings}
+use Rattle.segments.specs.Segments.{LogSegments}
+use Rattle.template.specs.Template.{Template, read, refusal, readTemplate}
+use Rattle.fields.specs.Lines.{lineOf}
+use Rattle.record.specs.Layout.{Laid, rightSize, laidOut}
+use Rattle.record.specs.Checks.{recordRefusal, recordOf}
+
+-- a line, or a refusal
+pub data Outcome : Type 0 where
+  line : List ℕ → Outcome
+  refused : Refusal → Outcome
+
+-- refusal 13: "the whole line is longer than the lent buffer; the needed length is returned"
+unfoldable pub inRoom : ℕ → List ℕ → Outcome
+inRoom room s = elim (leb (length s) room) [ true ↦ line s | false ↦ refused (Refusal.LineTooLong (length s)) ]
+
+unfoldable pub passed : Settings → List ℕ → LogSegments → Laid → ℕ → Maybe Refusal → Outcome
+passed settings t s d room none = inRoom room (lineOf settings t s (recordOf d))
+passed settings t s d room (some r) = refused r
+
+-- the record d by a template that was read
+unfoldable pub recordOutcome : Settings → List ℕ → LogSegments → Laid → ℕ → Outcome
+recordOutcome settings t s d room = passed settings t s d room (recordRefusal d)
+
+unfoldable pub byTemplate : Settings → List ℕ → Laid → ℕ → Template → Outcome
+byTemplate settings t d room (read s) = recordOutcome settings t s d room
+byTemplate settings t d room (refusal r) = refused r
+
+-- "Order: 1; 2; then 3 and 5 to 10; 4; 14; then for file, module, timestamp, message in turn 11 before 12; 13": the record d by the
+-- template t, with so much room in the lent buffer
+unfoldable pub outcome : Settings → List ℕ → Laid → ℕ → Outcome
+outcome settings t d room = byTemplate settings t d room (readTemplate t)
+
+-- "Every refusal leaves lent memory as found. An accepted line changes only its own bytes at the front of the buffer"
+unfoldable pub bufferAfter : List ℕ → Outcome → List ℕ
+bufferAfter d (line s) = putAt d 0 s
+bufferAfter d (refused r) = d
+
+-- "Every refusal returns its number (13 also the length; no other refusal returns one)": number + 256 × length
+abbrev pub lengthWith : Refusal → ℕ
+lengthWith Refusal.TemplateTooLong = 0
+lengthWith Refusal.TemplateNotUtf8 = 0
+lengthWith Refusal.Failure = 0
+lengthWith Refusal.NoMessage = 0
+lengthWith Refusal.TooManySegments = 0
+lengthWith Refusal.TooDeep = 0
+lengthWith Refusal.TooWide = 0
+lengthWith Refusal.TooManyF = 0
+lengthWith Refusal.HalfEscape = 0
+lengthWith Refusal.NameTouchesLetter = 0
+lengthWith Refusal.FieldTooLong = 0
+lengthWith Refusal.FieldNotUtf8 = 0
+lengthWith (Refusal.LineTooLong n) = n
+lengthWith Refusal.NotARecord = 0
+lengthWith Refusal.NotASheet = 0
+
+unfoldable pub packed : Outcome → ℕ
+packed (line s) = 256 * length s
+packed (refused r) = number r + 256 * lengthWith r
+
+-- "a settings byte (1 colour, 2 straight, others zero)": its known bits
+unfoldable pub settingsOf : ℕ → Settings
+settingsOf b = record { colour = eqb (b % 2) 1; straight = eqb (b / 2 % 2) 1 }
+
+-- ---- a call with the settings byte and the record's bytes
+
+-- "an unknown settings bit or a record of the wrong size is 15", in a call as in a sheet
+unfoldable pub isCall : ℕ → List ℕ → Bool
+isCall settings d = ltb settings 4 && rightSize d
+
+unfoldable pub callOutcome : ℕ → List ℕ → List ℕ → ℕ → Outcome
+callOutcome settings t d room =
+    elim (isCall settings d) [
+      | true ↦ outcome (settingsOf settings) t (laidOut d) room
+      | false ↦ refused Refusal.NotASheet
+    ]
+
+-- what the code's answer says of an outcome: a line by its length
+unfoldable pub answerOf : Outcome → Answer
+answerOf (line s) = Answer.Line (length s)
+answerOf (refused r) = Answer.Refused r

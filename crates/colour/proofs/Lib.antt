@@ -1,0 +1,16 @@
+pub mod Examples
+pub mod Acts
+pub mod Scanning
+pub mod Wholes
+pub mod Inserting
+pub mod Strip
+pub mod Visible
+pub mod Reinserted
+pub mod Shows
+pub mod Characters
+pub mod Prefixes
+pub mod Counts
+pub mod Formatted
+pub mod Measures
+pub mod Lengths
+pub mod Trees

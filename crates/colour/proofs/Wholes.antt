@@ -1,0 +1,33 @@
+-- Whole sequences: what is one whatever came before it. Assumes nothing.
+use mathlib.Core.Path.{_≡_, refl, ap, sym, _∙_}
+use mathlib.Core.List.{List, []}
+use Prim.Native.Nat.{ℕ, _+_}
+use lib.ListN.{length}
+use Rattle.text.specs.Utf8.{within}
+use Rattle.words.specs.Runs.{digit}
+use Rattle.colour.specs.declared.State.{State}
+use Rattle.colour.specs.declared.State.the-variants.{Outside}
+use Rattle.colour.specs.declared.Scan.{Scan}
+use Rattle.colour.specs.Sequences.{reset, inSequence}
+use Rattle.colour.specs.Machine.{actIn, actOf, stateAfter, scan, resting}
+use Rattle.colour.proofs.Scanning.{scan-state}
+
+-- whatever came before, p is one whole sequence and no reset
+abbrev pub Whole : List ℕ → Type 0
+Whole p = (t : Scan) → scan t p ≡ resting (t .sequences + length p) (t .resets)
+
+-- after a whole sequence no sequence is open, whatever came before
+pub state-whole : (p : List ℕ) → Whole p → (q : State) → stateAfter q p ≡ Outside
+state-whole p w q =
+    let t : Scan = record { state = q; held = 0; sequences = 0; resets = 0 } in
+    sym (scan-state p t) ∙ ap (λ (u : Scan). u .state) (w t)
+
+-- what may be put before a text: nothing, or one whole sequence
+pub data WholeOrNone : List ℕ → Type 0 where
+  none : WholeOrNone []
+  one : {p : List ℕ} → Whole p → WholeOrNone p
+
+-- the reset, whatever came before
+pub scan-reset : (t : Scan) → scan t reset ≡ resting (t .sequences + 4) (t .resets + 1)
+unfolding actOf actIn inSequence digit within
+scan-reset t = refl

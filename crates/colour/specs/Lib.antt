@@ -1,0 +1,6 @@
+pub mod Sequences
+pub mod Looks
+pub mod Formatting
+pub mod Shown
+pub mod Texts
+pub mod Machine

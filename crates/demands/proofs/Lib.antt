@@ -1,0 +1,4 @@
+pub mod Holds
+pub mod OfLines
+pub mod Quiet
+pub mod Sharp

@@ -1,0 +1,5 @@
+pub mod Builtins
+pub mod Demand3
+pub mod Examples
+pub mod Lines
+pub mod Modes

@@ -1,0 +1,1 @@
+// The demands on the lines, as statements, and their proofs: no code.

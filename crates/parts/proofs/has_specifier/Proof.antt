@@ -1,0 +1,22 @@
+use Rattle.parts.specs.Parts.{hasSpecifier}
+use borrow.Author.Needs.{needs}
+use mathlib.Core.Path.{sym, ap}
+use Rattle.parts.proofs.has_specifier.Statement.{statement}
+use Rattle.parts.proofs.has_specifier.Tie as tie
+
+enum-told : tie.Need-enum-told
+enum-told c = search needs
+
+enum-told-2 : tie.Need-enum-told-2
+enum-told-2 c = search needs
+
+returns : tie.Need-returns
+unfolding hasSpecifier
+returns c = sym (ap hasSpecifier (c .enum-told .given .1))
+
+returns-2 : tie.Need-returns-2
+unfolding hasSpecifier
+returns-2 c = sym (ap hasSpecifier (c .enum-told2 .given .1))
+
+pub has-specifier-spec : {M : Type 1} → statement M
+has-specifier-spec = tie.close (tie.spec enum-told enum-told-2 returns returns-2)

@@ -1,0 +1,4 @@
+pub mod Records
+pub mod Layout
+pub mod Checks
+pub mod Told

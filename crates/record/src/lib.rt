@@ -1,0 +1,40 @@
+// A record: what a line is about, as it is laid out in bytes, and its checks.
+use refusals::Refusal;
+
+// Who logged: the scan head, or the tablet itself.
+pub enum Source {
+    Defmt,
+    Host,
+}
+
+// A record's level; a print has none.
+pub enum Level {
+    Print,
+    Error,
+    Warn,
+    Info,
+    Debug,
+    Trace,
+}
+
+// A record as numbers: what its bytes say, and the places of its texts in them.
+pub struct Places {
+    pub source: usize,
+    pub level: usize,
+    pub mask: usize,
+    pub line: usize,
+    pub file_from: usize,
+    pub file_to: usize,
+    pub module_from: usize,
+    pub module_to: usize,
+    pub timestamp_from: usize,
+    pub timestamp_to: usize,
+    pub message_from: usize,
+    pub message_to: usize,
+}
+
+// Whether a record passes its checks.
+pub enum Checked {
+    Passed,
+    Refused(Refusal),
+}

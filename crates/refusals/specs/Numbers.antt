@@ -1,0 +1,36 @@
+-- "Numbers given instead of a line" (document 01): the number of each refusal, and the one length that is returned. Assumes nothing.
+use Prim.Native.Nat.{ℕ}
+use Rattle.refusals.specs.declared.Refusal.{Refusal}
+use Rattle.refusals.specs.declared.Refusal.the-variants.{TemplateTooLong, TemplateNotUtf8, Failure, NoMessage, TooManySegments, TooDeep, TooWide, TooManyF, HalfEscape, NameTouchesLetter, FieldTooLong, FieldNotUtf8, LineTooLong, NotARecord, NotASheet}
+
+abbrev pub number : Refusal → ℕ
+-- "template over 1,024 bytes"
+number TemplateTooLong = 1
+-- "template not UTF-8"
+number TemplateNotUtf8 = 2
+-- "the crate's parser fails outright on it (a `Failure`)"
+number Failure = 3
+-- "read, but no `{s}` at any depth; the empty template too"
+number NoMessage = 4
+-- "a 65th segment is made"
+number TooManySegments = 5
+-- "a closed brace is entered at depth 9 (outermost is 1)"
+number TooDeep = 6
+-- "a width above 512 is read, however many digits"
+number TooWide = 7
+-- "a specifier name of more than 255 `f`"
+number TooManyF = 8
+-- "a search for a closing brace meets a backslash as the last byte of its text"
+number HalfEscape = 9
+-- "a non-empty run of ASCII letters, tried as a name, touches a byte of 128 or more"
+number NameTouchesLetter = 10
+-- "a field over 4,096 bytes"
+number FieldTooLong = 11
+-- "a field not UTF-8"
+number FieldNotUtf8 = 12
+-- "the whole line is longer than the lent buffer; the needed length is returned"
+number (LineTooLong n) = 13
+-- "source over 1, level over 5, host without level, presence mask over 7, or an absent field with a non-zero length or line"
+number NotARecord = 14
+-- "sheet over 65,536 bytes, or not laid out exactly as the sheet section says"
+number NotASheet = 15

@@ -1,0 +1,7 @@
+pub mod Joining
+pub mod Chains
+pub mod Fronts
+pub mod Growing
+pub mod Codes
+pub mod Stored
+pub mod Searching

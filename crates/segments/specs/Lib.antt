@@ -1,0 +1,4 @@
+pub mod Segments
+pub mod Sizes
+pub mod Pool
+pub mod Storing

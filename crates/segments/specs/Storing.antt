@@ -1,0 +1,31 @@
+-- What storing the parts of a segment leaves in the pool. Assumes nothing.
+use Prim.Native.Nat.{ℕ, _+_, _*_, _<_, _^_}
+use mathlib.Core.Path.{_≡_}
+use mathlib.Core.Bool.{Bool, true, false}
+use mathlib.Core.List.{List}
+use lib.ListN.{take}
+use Rattle.words.specs.declared.Width.{Width}
+use Rattle.words.specs.declared.LogFormat.{LogFormat}
+use Rattle.segments.specs.Pool.{cell, formatAt}
+
+-- one more than the width is a number that can be stored
+abbrev pub Storable : Width → Type 0
+Storable Width.Default = Unit {0}
+Storable (Width.Given n) = n < 2 ^ 32
+
+abbrev pub flagOf : Bool → ℕ
+flagOf true = 1
+flagOf false = 0
+
+-- the first four numbers of segment n
+pub record Begun (before after : List ℕ) (n link number a b : ℕ) : Type 0 where
+  pub front : take (8 * n) after ≡ take (8 * n) before
+  pub kind : cell after n 0 ≡ number
+  pub first : cell after n 1 ≡ a
+  pub second : cell after n 2 ≡ b
+  pub linked : cell after n 3 ≡ link
+
+-- the last four
+pub record Dressed (before after : List ℕ) (n : ℕ) (f : LogFormat) : Type 0 where
+  pub front : take (8 * n + 4) after ≡ take (8 * n + 4) before
+  pub format : formatAt after n ≡ f

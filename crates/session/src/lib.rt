@@ -1,0 +1,1 @@
+// A whole session: what the program writes for a sheet.

@@ -1,0 +1,1 @@
+// The session sheet: what is laid out as one, and its bodies.

@@ -1,0 +1,4 @@
+pub mod Braces
+pub mod Reading
+pub mod Template
+pub mod Told

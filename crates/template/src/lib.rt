@@ -1,0 +1,65 @@
+// Reading a template, under the crate's names (`parser.rs`). A text is read from a place up to an end; segments go into a lent pool.
+use parts::Parts;
+use refusals::Refusal;
+
+// What a list of words answers.
+pub enum PartsRead {
+    Fit(Parts, usize),
+    Misfit,
+    Refused(Refusal),
+}
+
+// Where the brace that is open closes.
+pub enum Closing {
+    At(usize),
+    Nowhere,
+    HalfEscape,
+}
+
+// What a reader of segments answers: it fits (the place after it, and how many segments are made: it is the last of them), it doesn't fit,
+// or the template is refused.
+pub enum Reading {
+    Fit(usize, usize),
+    Misfit,
+    Refused(Refusal),
+}
+
+// The group or inner segment that a content takes: where there is one, it is the segment made last.
+pub enum Inner {
+    Nothing,
+    One,
+    Several,
+}
+
+// What the items of a content have given so far.
+pub struct Items {
+    pub parts: Parts,
+    pub inner: Inner,
+    pub made: usize,
+}
+
+pub enum ItemRead {
+    Fit(Items, usize),
+    Misfit,
+    Refused(Refusal),
+}
+
+// What the pieces of a group have given so far: the link to its last member (0: none), and whether a member is a specifier.
+pub struct Pieces {
+    pub parts: Parts,
+    pub last: usize,
+    pub direct: bool,
+    pub made: usize,
+}
+
+pub enum PieceRead {
+    Fit(Pieces, usize),
+    Misfit,
+    Refused(Refusal),
+}
+
+// A template that was read: how many segments it has. The last of them is the last of the top level.
+pub enum Parsed {
+    Read(usize),
+    Refused(Refusal),
+}

@@ -1,0 +1,8 @@
+-- Laws that proofs of this layer and of the layers above cite.
+pub mod Answers
+pub mod Asking
+pub mod Attempts
+pub mod Counting
+pub mod Matching
+pub mod Naming
+pub mod Running

@@ -1,0 +1,100 @@
+-- `letter_metadata` meets its contract: each letter by one law. Assumes nothing.
+use borrow.Author.Needs.{needs}
+use native.Mathlib.Omega.{arith}
+use mathlib.Core.Path.{refl, sym}
+use Rattle.text.specs.Bytes.{same}
+use Rattle.text.specs.Table.{lookup}
+use Rattle.words.specs.Trying.{tellMetadata}
+use Rattle.words.specs.Within.{MetadataWithin}
+use Rattle.words.specs.Words.{specifierOf, orRepeatedF, repeatedF, fileName}
+use Rattle.words.proofs.Naming.{letter-fit, letter-misfit}
+use Rattle.words.proofs.parser.letter_metadata.Statement.{statement}
+use Rattle.words.proofs.parser.letter_metadata.Tie as tie
+
+shared-slice-read-match : tie.Need-shared-slice-read-match
+shared-slice-read-match c = search needs
+
+add-t8 : tie.Need-add-t8
+add-t8 c = search needs
+
+add-t10 : tie.Need-add-t10
+add-t10 c = search needs
+
+add-t12 : tie.Need-add-t12
+add-t12 c = search needs
+
+add-t14 : tie.Need-add-t14
+add-t14 c = search needs
+
+add-t16 : tie.Need-add-t16
+add-t16 c = search needs
+
+add-t18 : tie.Need-add-t18
+add-t18 c = search needs
+
+add-t20 : tie.Need-add-t20
+add-t20 c = search needs
+
+add-t22 : tie.Need-add-t22
+add-t22 c = search needs
+
+returns : tie.Need-returns
+unfolding specifierOf orRepeatedF repeatedF fileName lookup same
+returns c = letter-fit _ _ 0x63 _ (c .match .keys1) refl tt
+
+returns-2 : tie.Need-returns-2
+unfolding specifierOf orRepeatedF repeatedF fileName lookup same
+returns-2 c = letter-fit _ _ 0x66 _ (c .match .keys2) refl (omega arith)
+
+returns-3 : tie.Need-returns-3
+unfolding specifierOf orRepeatedF repeatedF fileName lookup same
+returns-3 c = letter-fit _ _ 0x46 _ (c .match .keys3) refl tt
+
+returns-4 : tie.Need-returns-4
+unfolding specifierOf orRepeatedF repeatedF fileName lookup same
+returns-4 c = letter-fit _ _ 0x6C _ (c .match .keys4) refl tt
+
+returns-5 : tie.Need-returns-5
+unfolding specifierOf orRepeatedF repeatedF fileName lookup same
+returns-5 c = letter-fit _ _ 0x73 _ (c .match .keys5) refl tt
+
+returns-6 : tie.Need-returns-6
+unfolding specifierOf orRepeatedF repeatedF fileName lookup same
+returns-6 c = letter-fit _ _ 0x4C _ (c .match .keys6) refl tt
+
+returns-7 : tie.Need-returns-7
+unfolding specifierOf orRepeatedF repeatedF fileName lookup same
+returns-7 c = letter-fit _ _ 0x6D _ (c .match .keys7) refl tt
+
+returns-8 : tie.Need-returns-8
+unfolding specifierOf orRepeatedF repeatedF fileName lookup same
+returns-8 c = letter-fit _ _ 0x74 _ (c .match .keys8) refl tt
+
+returns-9 : tie.Need-returns-9
+unfolding tellMetadata MetadataWithin
+returns-9 c =
+    let n = c .match .rest in
+    (sym (letter-misfit _ _ (n .0 .0 .0 .0 .0 .0 .0 .1) (n .0 .0 .0 .0 .0 .0 .1) (n .0 .0 .0 .0 .0 .1) (n .0 .0 .0 .0 .1) (n .0 .0 .0 .1) (n .0 .0 .1) (n .0 .1) (n .1)), tt)
+
+pub letter-metadata-spec : {M : Type 1} → statement M
+letter-metadata-spec =
+    tie.close
+    (tie.spec
+    shared-slice-read-match
+    add-t8
+    add-t10
+    add-t12
+    add-t14
+    add-t16
+    add-t18
+    add-t20
+    add-t22
+    returns
+    returns-2
+    returns-3
+    returns-4
+    returns-5
+    returns-6
+    returns-7
+    returns-8
+    returns-9)

@@ -1,0 +1,4 @@
+pub mod Runs
+pub mod Trying
+pub mod Within
+pub mod Words

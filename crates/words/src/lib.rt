@@ -1,0 +1,104 @@
+// The words of a template: names and numbers, under the crate's names.
+use refusals::Refusal;
+
+pub mod numbers;
+pub mod parser;
+pub mod runs;
+pub mod spelling;
+
+// What a specifier shows.
+pub enum LogMetadata {
+    CrateName,
+    FileName(usize),
+    FilePath,
+    LineNumber,
+    Log,
+    LogLevel,
+    ModulePath,
+    Timestamp,
+}
+
+// The foreground colours that a line can hold. No word asks for the last two: they are the colours of levels.
+pub enum Color {
+    Black,
+    Red,
+    Green,
+    Yellow,
+    Blue,
+    Magenta,
+    Cyan,
+    White,
+    BrightBlack,
+    BrightWhite,
+}
+
+// The colour that a segment asks for.
+pub enum LogColor {
+    Unasked,
+    Color(Color),
+    SeverityLevel,
+    WarnError,
+}
+
+pub enum Style {
+    Bold,
+    Italic,
+    Underline,
+    Strike,
+    Dimmed,
+}
+
+pub enum Alignment {
+    Left,
+    Center,
+    Right,
+}
+
+pub enum Padding {
+    Space,
+    Zero,
+}
+
+// The width that a segment asks for.
+pub enum Width {
+    Default,
+    Given(usize),
+}
+
+pub struct Styles {
+    pub bold: bool,
+    pub dimmed: bool,
+    pub underline: bool,
+    pub italic: bool,
+    pub strike: bool,
+}
+
+// How a specifier or a group asks to be written.
+pub struct LogFormat {
+    pub width: Width,
+    pub color: LogColor,
+    pub styles: Styles,
+    pub alignment: Alignment,
+    pub padding: Padding,
+}
+
+// One parameter of a specifier or a group.
+pub enum Parameter {
+    Color(LogColor),
+    Style(Style),
+    WidthAndAlignment(usize, Padding, Alignment),
+}
+
+// What is found where a specifier is tried: it and the place after it, or a misfit, or a refusal.
+pub enum MetadataRead {
+    Fit(LogMetadata, usize),
+    Misfit,
+    Refused(Refusal),
+}
+
+// What is found where a parameter is tried.
+pub enum FormatRead {
+    Fit(Parameter, usize),
+    Misfit,
+    Refused(Refusal),
+}
