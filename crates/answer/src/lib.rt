@@ -1,8 +1,202 @@
 // What a line call answers: the line, or a refusal.
+use colour::Settings;
+use line::writing::write_line;
+use record::Checked;
+use record::Places;
+use record::checks::check_record;
+use record::layout::places_in;
+use record::layout::right_size;
 use refusals::Refusal;
+use template::Parsed;
+use template::parse::parse;
+ghost use mathlib.Core.Path.{_≡_};
+ghost use mathlib.Core.Bool.{true};
+ghost use Prim.Native.Nat.{_≤_, _<_, _^_};
+ghost use lib.ListN.{length};
+ghost use Rattle.text.specs.Bytes.{part};
+ghost use Rattle.segments.specs.Pool.{chainAt};
+ghost use Rattle.template.specs.Told.{ReadKeeps};
+ghost use Rattle.record.specs.Layout.{rightSize, laidOut, laidBy};
+ghost use Rattle.record.specs.Checks.{recordOf};
+ghost use Rattle.fields.specs.Lines.{lineOf};
+ghost use Rattle.line.specs.Places.{recordBy};
+ghost use Rattle.line.specs.Rows.{written};
+ghost use Rattle.line.specs.Texts.{segmentsText};
+ghost use Rattle.answer.specs.Answers.{settingsOf, recordOutcome, outcome, callOutcome, answerOf, bufferAfter};
+ghost use Rattle.answer.specs.Rooms.{answerIn, Packable, Asked, Passed};
+
+pub mod packing;
+pub mod templates;
 
 // A line of so many bytes at the front of the lent buffer, or a refusal.
 pub enum Answer {
     Line(usize),
     Refused(Refusal),
+}
+
+// The settings that a byte's known bits say.
+pub fn settings_of(b: u8) -> Settings
+    ensures { λ r. ⌜ r ≡ settingsOf b ⌝ }
+{
+    Settings {
+        colour: b % 2 == 1,
+        straight: b / 2 % 2 == 1,
+    }
+}
+
+// The answer for a line of n bytes.
+pub fn answer_in(room: usize, n: usize) -> Answer
+    ensures { λ r. ⌜ r ≡ answerIn room n ⌝ }
+{
+    if n <= room {
+        return Answer::Line(n);
+    }
+    Answer::Refused(Refusal::LineTooLong(n))
+}
+
+// Writes a part of d where there is room for it, and returns its length.
+fn put_part(d: &[u8], from: usize, to: usize, out: &mut [u8]) -> usize
+    requires { ⌜ (from ≤ to) × (to ≤ length (now d)) ⌝ }
+    ensures { λ r. ⌜ (r ≡ length (part from to (now (d .entry)))) × (now (out .exit) ≡ written (now (out .entry)) (part from to (now (d .entry)))) ⌝ }
+{
+    let n = to - from;
+    if out.len() < n {
+        return n;
+    }
+    text::buffer::put(out, 0, &d[from..to])
+}
+
+// The same with the line of a record that has a level.
+fn put_segments(
+    cells: &[usize],
+    n: usize,
+    t: &[u8],
+    s: Settings,
+    d: &[u8],
+    p: Places,
+    out: &mut [u8],
+) -> usize
+    requires { ⌜ Passed (now cells) (now t) (now d) n p ⌝ }
+    ensures { λ r. ⌜ (r ≡ length (segmentsText s (now (t .entry)) (recordOf (laidBy p (now (d .entry)))) (chainAt (now (cells .entry)) n))) × (now (out .exit) ≡ written (now (out .entry)) (segmentsText s (now (t .entry)) (recordOf (laidBy p (now (d .entry)))) (chainAt (now (cells .entry)) n))) ⌝ }
+{
+    let numbers = [
+        p.source,
+        p.level,
+        p.mask,
+        p.line,
+        p.file_from,
+        p.file_to,
+        p.module_from,
+        p.module_to,
+        p.timestamp_from,
+        p.timestamp_to,
+        p.message_from,
+        p.message_to,
+    ];
+    write_line(cells, n, t, d, &numbers, s, out)
+}
+
+// The same with the line of any record that passed its checks: a print without level is its message alone.
+fn put_line(
+    cells: &[usize],
+    n: usize,
+    t: &[u8],
+    s: Settings,
+    d: &[u8],
+    p: Places,
+    out: &mut [u8],
+) -> usize
+    requires { ⌜ Passed (now cells) (now t) (now d) n p ⌝ }
+    ensures { λ r. ⌜ (r ≡ length (lineOf s (now (t .entry)) (chainAt (now (cells .entry)) n) (recordOf (laidBy p (now (d .entry)))))) × (now (out .exit) ≡ written (now (out .entry)) (lineOf s (now (t .entry)) (chainAt (now (cells .entry)) n) (recordOf (laidBy p (now (d .entry)))))) ⌝ }
+{
+    if p.level == 0 {
+        return put_part(d, p.message_from, p.message_to, out);
+    }
+    put_segments(cells, n, t, s, d, p, out)
+}
+
+// The answer for the record d where there is so much room. The line is written where the buffer has room for it: measuring lends none.
+fn answer_record(
+    cells: &[usize],
+    n: usize,
+    t: &[u8],
+    s: Settings,
+    d: &[u8],
+    room: usize,
+    out: &mut [u8],
+) -> Answer
+    requires { ⌜ Asked (now cells) (now t) (now d) n ⌝ }
+    ensures answer { λ r. ⌜ r ≡ answerOf (recordOutcome s (now (t .entry)) (chainAt (now (cells .entry)) n) (laidOut (now (d .entry))) room) ⌝ }
+    ensures buffer { λ r. ⌜ now (out .exit) ≡ bufferAfter (now (out .entry)) (recordOutcome s (now (t .entry)) (chainAt (now (cells .entry)) n) (laidOut (now (d .entry))) (length (now (out .entry)))) ⌝ }
+    ensures packable { λ r. ⌜ Packable r ⌝ }
+{
+    let p = places_in(d);
+    let c = check_record(d, p);
+    match c {
+        Checked::Passed => answer_in(room, put_line(cells, n, t, s, d, p, out)),
+        Checked::Refused(r) => Answer::Refused(r),
+    }
+}
+
+// The record d by a template t that was read: n segments in the pool.
+pub fn record_line(
+    cells: &[usize],
+    n: usize,
+    t: &[u8],
+    s: Settings,
+    d: &[u8],
+    out: &mut [u8],
+) -> Answer
+    requires { ⌜ (512 ≤ length (now cells)) × (ReadKeeps (now cells) n × ((length (now t) ≤ 1024) × (rightSize (now d) ≡ true))) ⌝ }
+    ensures answer { λ r. ⌜ r ≡ answerOf (recordOutcome s (now (t .entry)) (chainAt (now (cells .entry)) n) (laidOut (now (d .entry))) (length (now (out .entry)))) ⌝ }
+    ensures buffer { λ r. ⌜ now (out .exit) ≡ bufferAfter (now (out .entry)) (recordOutcome s (now (t .entry)) (chainAt (now (cells .entry)) n) (laidOut (now (d .entry))) (length (now (out .entry)))) ⌝ }
+{
+    let room = out.len();
+    answer_record(cells, n, t, s, d, room, out)
+}
+
+// The same answer, and nothing is written.
+pub fn measure_record(
+    cells: &[usize],
+    n: usize,
+    t: &[u8],
+    s: Settings,
+    d: &[u8],
+    room: usize,
+) -> Answer
+    requires { ⌜ (512 ≤ length (now cells)) × (ReadKeeps (now cells) n × ((length (now t) ≤ 1024) × (rightSize (now d) ≡ true))) ⌝ }
+    ensures { λ r. ⌜ r ≡ answerOf (recordOutcome s (now (t .entry)) (chainAt (now (cells .entry)) n) (laidOut (now (d .entry))) room) ⌝ }
+{
+    let mut none: [u8; 0] = [];
+    answer_record(cells, n, t, s, d, room, &mut none)
+}
+
+// The record d by the template t, which is read for it alone.
+fn read_and_answer(t: &[u8], s: Settings, d: &[u8], out: &mut [u8]) -> Answer
+    requires { ⌜ rightSize (now d) ≡ true ⌝ }
+    ensures answer { λ r. ⌜ r ≡ answerOf (outcome s (now (t .entry)) (laidOut (now (d .entry))) (length (now (out .entry)))) ⌝ }
+    ensures buffer { λ r. ⌜ now (out .exit) ≡ bufferAfter (now (out .entry)) (outcome s (now (t .entry)) (laidOut (now (d .entry))) (length (now (out .entry)))) ⌝ }
+    ensures packable { λ r. ⌜ Packable r ⌝ }
+{
+    let mut cells: [usize; 512] = [0; 512];
+    let read = parse(t, &mut cells);
+    match read {
+        Parsed::Read(n) => answer_record(&cells, n, t, s, d, out.len(), out),
+        Parsed::Refused(r) => Answer::Refused(r),
+    }
+}
+
+// The line of the record d by the template t, at the front of the lent buffer; or a refusal, and the buffer as it was.
+pub fn line(t: &[u8], settings: u8, d: &[u8], out: &mut [u8]) -> Answer
+    ensures answer { λ r. ⌜ r ≡ answerOf (callOutcome settings (now (t .entry)) (now (d .entry)) (length (now (out .entry)))) ⌝ }
+    ensures buffer { λ r. ⌜ now (out .exit) ≡ bufferAfter (now (out .entry)) (callOutcome settings (now (t .entry)) (now (d .entry)) (length (now (out .entry)))) ⌝ }
+    ensures packable { λ r. ⌜ Packable r ⌝ }
+{
+    if 4 <= settings {
+        return Answer::Refused(Refusal::NotASheet);
+    }
+    if right_size(d) {
+        return read_and_answer(t, settings_of(settings), d, out);
+    }
+    Answer::Refused(Refusal::NotASheet)
 }

@@ -1,1 +1,3 @@
 pub mod Builtins
+pub mod Rows
+pub mod Written

@@ -1,3 +1,4 @@
+pub mod Entries
 pub mod Holds
 pub mod OfLines
 pub mod Quiet

@@ -1,5 +1,6 @@
 pub mod Builtins
 pub mod Demand3
+pub mod Entries
 pub mod Examples
 pub mod Lines
 pub mod Modes

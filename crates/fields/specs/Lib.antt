@@ -4,3 +4,5 @@ pub mod Texts
 pub mod Formats
 pub mod Lines
 pub mod Wordings
+pub mod Remaining
+pub mod Worded

@@ -1,4 +1,8 @@
 // What each specifier shows of a record.
+pub mod formats;
+pub mod levels;
+pub mod paths;
+pub mod wordings;
 
 // A text that doesn't come from the record: placeholders and the names of levels.
 pub enum Fixed {

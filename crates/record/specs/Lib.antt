@@ -2,3 +2,4 @@ pub mod Records
 pub mod Layout
 pub mod Checks
 pub mod Told
+pub mod Marks

@@ -1,6 +1,11 @@
 // A record: what a line is about, as it is laid out in bytes, and its checks.
 use refusals::Refusal;
 
+pub mod checks;
+pub mod layout;
+pub mod levels;
+pub mod numbers;
+
 // Who logged: the scan head, or the tablet itself.
 pub enum Source {
     Defmt,

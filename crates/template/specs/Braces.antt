@@ -41,7 +41,7 @@ closing t (suc n) i k true = closing t n (i + 1) k false
 closing t (suc n) i k false = marked (closing t n (i + 1)) i k (markOf (getD t i 0))
 
 -- a brace that closes does so before `to`
-abbrev pub ClosingWithin : ℕ → ℕ → Closing → Type 0
+unfoldable pub ClosingWithin : ℕ → ℕ → Closing → Type 0
 ClosingWithin from to (At c) = (from ≤ c) × (c < to)
 ClosingWithin from to Nowhere = Unit {0}
 ClosingWithin from to HalfEscape = Unit {0}

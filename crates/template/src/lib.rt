@@ -2,6 +2,12 @@
 use parts::Parts;
 use refusals::Refusal;
 
+pub mod braces;
+pub mod build;
+pub mod lists;
+pub mod parse;
+pub mod reader;
+
 // What a list of words answers.
 pub enum PartsRead {
     Fit(Parts, usize),

@@ -1,0 +1,257 @@
+-- Answers and buffers by the room that there is, and the line of a record that passed its checks. Assumes nothing.
+use Prim.Native.Nat.{ℕ, zero, suc, _≤_, _<_, _^_}
+use mathlib.Core.Path.{_≡_, refl, sym, ap, subst, _∙_}
+use mathlib.Core.Bool.{Bool, true, false}
+use mathlib.Core.List.{List, append-nil}
+use native.Mathlib.Omega.{arith}
+use borrow.Author.Tests.{le-leb, lt-leb, le-ltb, lt-ltb, leb-true}
+use lib.Dec.{leb}
+use lib.ListN.{length}
+use Rattle.text.specs.Buffer.{putAt}
+use Rattle.text.specs.Table.{Maybe, none, some}
+use Rattle.text.specs.Utf8.{valid}
+use Rattle.refusals.specs.declared.Refusal.{Refusal}
+use Rattle.refusals.specs.Numbers.{number}
+use Rattle.colour.specs.declared.Settings.{Settings}
+use Rattle.colour.specs.Shown.{textOf, joined}
+use Rattle.segments.specs.Segments.{LogSegments}
+use Rattle.template.specs.Template.{Template, read, refusal, readTemplate, topLevel, namesTimestamp}
+use Rattle.record.specs.declared.Places.{Places}
+use Rattle.record.specs.Layout.{Laid, laidBy, laidOut, rightSize}
+use Rattle.record.specs.Checks.{recordRefusal, badlyMarked, fieldRefusal, fieldsRefusal, orNext, recordOf, levelOf, levelAt}
+use Rattle.record.proofs.Passing.{passes}
+use Rattle.fields.specs.Lines.{recordShown, lineOf}
+use Rattle.line.specs.Places.{placesOf, recordBy, Short}
+use Rattle.line.specs.Texts.{segmentsText}
+use Rattle.line.specs.Rows.{Writable, written}
+use Rattle.answer.specs.declared.Answer.{Answer}
+use Rattle.answer.specs.Answers.{Outcome, line, refused, inRoom, passed, recordOutcome, bufferAfter, lengthWith, answerOf, packed, byTemplate, outcome, isCall, callOutcome, settingsOf}
+use Rattle.answer.specs.Templates.{timestampOf}
+use Rattle.answer.specs.Rooms.{answerIn, Packable, packedAnswer, Passed}
+
+-- ---- by the room
+
+pub in-whole : (room n : ℕ) → n ≤ room → Answer.Line n ≡ answerIn room n
+unfolding answerIn
+in-whole room n h = rw (le-leb n room h, answerIn)
+
+pub in-short : (room n : ℕ) → room < n → Answer.Refused (Refusal.LineTooLong n) ≡ answerIn room n
+unfolding answerIn
+in-short room n h = rw (lt-leb n room h, answerIn)
+
+pub answer-in-room : (room : ℕ) (x : List ℕ) → answerIn room (length x) ≡ answerOf (inRoom room x)
+unfolding answerIn inRoom answerOf
+answer-in-room room x = by (leb (length x) room)
+  where
+    by : (b : Bool) → _≡_ {A = Answer} (elim b [ true ↦ Answer.Line (length x) | false ↦ Answer.Refused (Refusal.LineTooLong (length x)) ])
+        (answerOf (elim b [ true ↦ line x | false ↦ refused (Refusal.LineTooLong (length x)) ]))
+    by true = refl
+    by false = refl
+
+pub buffer-in-room : (d x : List ℕ) → written d x ≡ bufferAfter d (inRoom (length d) x)
+unfolding written inRoom bufferAfter
+buffer-in-room d x = by (leb (length x) (length d))
+  where
+    by : (b : Bool) → _≡_ {A = List ℕ} (elim b [ true ↦ putAt d 0 x | false ↦ d ])
+        (bufferAfter d (elim b [ true ↦ line x | false ↦ refused (Refusal.LineTooLong (length x)) ]))
+    by true = refl
+    by false = refl
+
+pub packable-in : (room n : ℕ) → n < 2 ^ 56 → Packable (answerIn room n)
+unfolding answerIn Packable
+packable-in room n h = by (leb n room)
+  where
+    by : (b : Bool) → Packable (elim b [ true ↦ Answer.Line n | false ↦ Answer.Refused (Refusal.LineTooLong n) ])
+    by true = h
+    by false = h
+
+-- ---- by the checks
+
+module _ (s : Settings) (t : List ℕ) (c : LogSegments) (l : Laid) (room : ℕ) where
+  pub passed-outcome : recordRefusal l ≡ none → recordOutcome s t c l room ≡ inRoom room (lineOf s t c (recordOf l))
+  unfolding recordOutcome passed
+  passed-outcome e = ap (passed s t c l room) e
+
+  pub refused-outcome : (r : Refusal) → recordRefusal l ≡ some r → recordOutcome s t c l room ≡ refused r
+  unfolding recordOutcome passed
+  refused-outcome r e = ap (passed s t c l room) e
+
+-- no check of a record tells a length
+abbrev Unsized : Maybe Refusal → Type 0
+Unsized none = Unit {0}
+Unsized (some r) = lengthWith r ≡ 0
+
+field-unsized : (x : List ℕ) → Unsized (fieldRefusal x)
+unfolding fieldRefusal
+field-unsized x = by (leb (length x) 4096) (valid x)
+  where
+    by : (a b : Bool) → Unsized (elim a [ true ↦ elim b [ true ↦ none | false ↦ some Refusal.FieldNotUtf8 ] | false ↦ some Refusal.FieldTooLong ])
+    by true true = tt
+    by true false = refl
+    by false b = refl
+
+or-unsized : (x : Maybe Refusal) (k : Unit {0} → Maybe Refusal) → Unsized x → Unsized (k tt) → Unsized (orNext x k)
+unfolding orNext
+or-unsized none k h g = g
+or-unsized (some r) k h g = h
+
+record-unsized : (l : Laid) → Unsized (recordRefusal l)
+unfolding recordRefusal fieldsRefusal
+record-unsized l = by (badlyMarked l)
+  where
+    fields : Unsized (fieldsRefusal l)
+    fields = or-unsized _ _ (field-unsized (l .file)) (or-unsized _ _ (field-unsized (l .modulePath)) (or-unsized _ _ (field-unsized (l .timestamp)) (field-unsized (l .message))))
+
+    by : (b : Bool) → Unsized (elim b [ true ↦ some Refusal.NotARecord | false ↦ fieldsRefusal l ])
+    by true = refl
+    by false = fields
+
+pub refusal-unsized : (l : Laid) (r : Refusal) → recordRefusal l ≡ some r → lengthWith r ≡ 0
+refusal-unsized l r e = subst Unsized e (record-unsized l)
+
+pub packable-refused : (r : Refusal) → lengthWith r ≡ 0 → Packable (Answer.Refused r)
+unfolding Packable
+packable-refused r h = omega (arith, h)
+
+-- ---- the line
+
+pub line-print : (s : Settings) (t : List ℕ) (c : LogSegments) (l : Laid) → l .level ≡ 0 → lineOf s t c (recordOf l) ≡ l .message
+unfolding lineOf recordOf recordShown joined textOf levelOf levelAt
+line-print s t c l h = rw (h, append-nil)
+
+shown-level : (s : Settings) (t : List ℕ) (c : LogSegments) (l : Laid) (n : ℕ) → (n ≡ 0 → ⊥) → n ≤ 5
+    → joined s (recordShown (levelOf n) t (recordOf l) c) ≡ segmentsText s t (recordOf l) c
+unfolding recordShown levelOf levelAt
+shown-level s t c l zero h g = absurd (h refl)
+shown-level s t c l (suc zero) h g = refl
+shown-level s t c l (suc (suc zero)) h g = refl
+shown-level s t c l (suc (suc (suc zero))) h g = refl
+shown-level s t c l (suc (suc (suc (suc zero)))) h g = refl
+shown-level s t c l (suc (suc (suc (suc (suc zero))))) h g = refl
+shown-level s t c l (suc (suc (suc (suc (suc (suc n)))))) h g = absurd (let z : ⊥ = omega arith in z)
+
+pub line-level : (s : Settings) (t : List ℕ) (c : LogSegments) (l : Laid) → (l .level ≡ 0 → ⊥) → recordRefusal l ≡ none
+    → lineOf s t c (recordOf l) ≡ segmentsText s t (recordOf l) c
+unfolding lineOf recordOf
+line-level s t c l h e = shown-level s t c l (l .level) h (passes l e .level)
+
+pub texts-short : (l : Laid) → recordRefusal l ≡ none → Short l
+texts-short l e =
+    let k = passes l e in
+    record { file = k .file .short; modulePath = k .modulePath .short; timestamp = k .timestamp .short; message = k .message .short }
+
+-- a row of the record's numbers
+module _ (cells t d : List ℕ) (n : ℕ) (p : Places) (numbers : List ℕ) (h : Passed cells t d n p) (e : placesOf numbers ≡ p) where
+  pub writable : 12 ≤ length numbers → Writable cells t d numbers n
+  writable g = record {
+    readable = record { pool = h .pool; few = h .read .few; twelve = g; places = rw e (h .places) };
+    sound = h .read .sound;
+    few = omega (arith, h .read .counted, h .read .few);
+    low = h .read .low;
+    template = h .template;
+    texts = rw e (texts-short (laidBy p d) (h .passes));
+  }
+
+  pub record-by : recordBy numbers d ≡ recordOf (laidBy p d)
+  unfolding recordBy
+  record-by = rw e
+
+-- ---- answers and buffers by the checks
+
+module _ (s : Settings) (t : List ℕ) (c : LogSegments) (l m : Laid) (e : l ≡ m) where
+  pub answer-passed : (room n : ℕ) (r : Answer) → recordRefusal l ≡ none → n ≡ length (lineOf s t c (recordOf l)) → r ≡ answerIn room n
+      → r ≡ answerOf (recordOutcome s t c m room)
+  answer-passed room n r h k a =
+      a
+      ∙ ap (answerIn room) k
+      ∙ answer-in-room room (lineOf s t c (recordOf l))
+      ∙ ap answerOf (sym (passed-outcome s t c l room h))
+      ∙ ap (λ (x : Laid). answerOf (recordOutcome s t c x room)) e
+
+  pub buffer-passed : (d o : List ℕ) → recordRefusal l ≡ none → o ≡ written d (lineOf s t c (recordOf l))
+      → o ≡ bufferAfter d (recordOutcome s t c m (length d))
+  buffer-passed d o h a =
+      a
+      ∙ buffer-in-room d (lineOf s t c (recordOf l))
+      ∙ ap (bufferAfter d) (sym (passed-outcome s t c l (length d) h))
+      ∙ ap (λ (x : Laid). bufferAfter d (recordOutcome s t c x (length d))) e
+
+  pub answer-refused : (room : ℕ) (r : Refusal) → recordRefusal l ≡ some r → Answer.Refused r ≡ answerOf (recordOutcome s t c m room)
+  unfolding answerOf
+  answer-refused room r h =
+      ap answerOf (sym (refused-outcome s t c l room r h)) ∙ ap (λ (x : Laid). answerOf (recordOutcome s t c x room)) e
+
+  pub buffer-refused : (d : List ℕ) (r : Refusal) → recordRefusal l ≡ some r → d ≡ bufferAfter d (recordOutcome s t c m (length d))
+  unfolding bufferAfter
+  buffer-refused d r h =
+      ap (bufferAfter d) (sym (refused-outcome s t c l (length d) r h)) ∙ ap (λ (x : Laid). bufferAfter d (recordOutcome s t c x (length d))) e
+
+-- ---- by the template and the call
+
+-- one number for an outcome
+pub packed-answer : (o : Outcome) → packedAnswer (answerOf o) ≡ packed o
+unfolding packedAnswer answerOf packed
+packed-answer (line s) = refl
+packed-answer (refused r) = refl
+
+-- a template that is read is short
+pub read-short : (t : List ℕ) (s : LogSegments) → readTemplate t ≡ read s → length t ≤ 1024
+unfolding readTemplate
+read-short t s e = by (leb (length t) 1024) refl e
+  where
+    by : (b : Bool) → leb (length t) 1024 ≡ b
+        → _≡_ {A = Template} (elim b [ true ↦ elim (valid t) [ true ↦ topLevel t | false ↦ refusal Refusal.TemplateNotUtf8 ] | false ↦ refusal Refusal.TemplateTooLong ]) (read s)
+        → length t ≤ 1024
+    by true h k = leb-true (length t) 1024 h
+    by false h k = absurd (let z : _≡_ {A = ℕ} 0 1 = cc in let y : ⊥ = omega arith in y)
+
+module _ (s : Settings) (t : List ℕ) (l : Laid) (room : ℕ) where
+  pub read-outcome : (c : LogSegments) → readTemplate t ≡ read c → recordOutcome s t c l room ≡ outcome s t l room
+  unfolding outcome byTemplate
+  read-outcome c e = ap (byTemplate s t l room) (sym e)
+
+  pub unread-outcome : (r : Refusal) → readTemplate t ≡ refusal r → refused r ≡ outcome s t l room
+  unfolding outcome byTemplate
+  unread-outcome r e = ap (byTemplate s t l room) (sym e)
+
+module _ (settings : ℕ) (t d : List ℕ) (room : ℕ) where
+  pub unknown-bit : 4 ≤ settings → refused Refusal.NotASheet ≡ callOutcome settings t d room
+  unfolding callOutcome isCall
+  unknown-bit h = rw (le-ltb settings 4 h, callOutcome)
+
+  pub wrong-size : settings < 4 → rightSize d ≡ false → refused Refusal.NotASheet ≡ callOutcome settings t d room
+  unfolding callOutcome isCall
+  wrong-size h e = rw (lt-ltb settings 4 h, e, callOutcome)
+
+  pub is-call : settings < 4 → rightSize d ≡ true → outcome (settingsOf settings) t (laidOut d) room ≡ callOutcome settings t d room
+  unfolding callOutcome isCall
+  is-call h e = rw (lt-ltb settings 4 h, e, callOutcome)
+
+-- a refusal's number leaves the other bits to a length
+pub number-small : (r : Refusal) → number r ≤ 15
+number-small Refusal.TemplateTooLong = omega arith
+number-small Refusal.TemplateNotUtf8 = omega arith
+number-small Refusal.Failure = omega arith
+number-small Refusal.NoMessage = omega arith
+number-small Refusal.TooManySegments = omega arith
+number-small Refusal.TooDeep = omega arith
+number-small Refusal.TooWide = omega arith
+number-small Refusal.TooManyF = omega arith
+number-small Refusal.HalfEscape = omega arith
+number-small Refusal.NameTouchesLetter = omega arith
+number-small Refusal.FieldTooLong = omega arith
+number-small Refusal.FieldNotUtf8 = omega arith
+number-small (Refusal.LineTooLong n) = omega arith
+number-small Refusal.NotARecord = omega arith
+number-small Refusal.NotASheet = omega arith
+
+-- ---- a template alone
+
+module _ (t : List ℕ) (c : LogSegments) (e : readTemplate t ≡ read c) where
+  pub named : namesTimestamp c ≡ true → 256 ≡ timestampOf (readTemplate t)
+  unfolding timestampOf
+  named h = rw (e, timestampOf, h)
+
+  pub unnamed : namesTimestamp c ≡ false → 0 ≡ timestampOf (readTemplate t)
+  unfolding timestampOf
+  unnamed h = rw (e, timestampOf, h)

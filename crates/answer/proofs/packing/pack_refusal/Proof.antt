@@ -1,0 +1,26 @@
+-- `answer::packing::pack_refusal` meets its contract. Assumes nothing.
+use native.Mathlib.Omega.{arith}
+use Rattle.answer.proofs.Answering.{number-small}
+use borrow.Author.Needs.{needs}
+use Rattle.answer.proofs.packing.pack_refusal.Statement.{statement}
+use Rattle.answer.proofs.packing.pack_refusal.Tie as tie
+
+number-of-requires : tie.Need-number-of-requires
+number-of-requires c κs = search needs
+
+length-with-requires : tie.Need-length-with-requires
+length-with-requires c κs = search needs
+
+mul-result : tie.Need-mul-result
+mul-result c = search needs
+
+add-result : tie.Need-add-result
+add-result c =
+    omega (arith, c .before .before .pre, c .length-with .ensures, c .before .number-of .ensures, number-small (c .before .before .args .r))
+
+returns : tie.Need-returns
+returns c = search needs
+
+pub pack-refusal-spec : {M : Type 1} → statement M
+pack-refusal-spec =
+    tie.close (tie.spec number-of-requires length-with-requires mul-result add-result returns)

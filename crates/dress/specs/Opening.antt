@@ -1,0 +1,55 @@
+-- A prefix as it is built, code after code. Assumes nothing.
+use Prim.Native.Nat.{ℕ, _+_, _≤_}
+use mathlib.Core.Path.{_≡_}
+use mathlib.Core.Bool.{Bool, cond}
+use mathlib.Core.List.{List, [], _∷_, _++_}
+use lib.Dec.{eqb}
+use lib.ListN.{length, take}
+use Rattle.text.specs.Bytes.{bytes}
+use Rattle.words.specs.declared.Color.{Color}
+use Rattle.words.specs.declared.Color.the-variants.{Black, Red, Green, Yellow, Blue, Magenta, Cyan, White, BrightBlack, BrightWhite}
+use Rattle.colour.specs.Looks.{where-it-applies, following}
+use Rattle.dress.specs.declared.prefix.Prefix.{Prefix}
+
+-- the bytes of a prefix
+unfoldable pub written : Prefix → List ℕ
+written p = take (p .len) (p .bytes)
+
+-- what stands before a code: `[` where byte 27 alone stands before it, else `;`
+unfoldable pub between : ℕ → ℕ
+between n = cond (eqb n 1) 0x5B 0x3B
+
+-- the codes, b before the first and `;` before the others
+abbrev pub joined : ℕ → List (List ℕ) → List ℕ
+joined b [] = []
+joined b (c ∷ cs) = b ∷ c ++ following cs
+
+-- p became r, with the code of a style where it applies, whatever codes are still to come
+pub record Coded (p r : Prefix) (x : Bool) (code : ℕ) : Type 0 where
+  pub text : (cs : List (List ℕ)) → written r ++ joined (between (r .len)) cs ≡ written p ++ joined (between (p .len)) (where-it-applies x (code ∷ []) cs)
+  pub size : length (r .bytes) ≡ 16
+  pub least : p .len ≤ r .len
+  pub most : r .len ≤ p .len + 2
+
+-- the sequence with its `m`; byte 27 alone begins none
+abbrev pub closed : List ℕ → List ℕ
+closed [] = []
+closed (b ∷ []) = []
+closed (b ∷ c ∷ s) = b ∷ c ∷ s ++ bytes "m"
+
+-- the codes of the colours, two digits to each
+abbrev pub foregrounds : List ℕ
+foregrounds = bytes "30313233343536379097"
+
+-- where the two digits of a colour stand in the table of the codes
+abbrev pub foregroundAt : Color → ℕ
+foregroundAt Black = 0
+foregroundAt Red = 2
+foregroundAt Green = 4
+foregroundAt Yellow = 6
+foregroundAt Blue = 8
+foregroundAt Magenta = 10
+foregroundAt Cyan = 12
+foregroundAt White = 14
+foregroundAt BrightBlack = 16
+foregroundAt BrightWhite = 18

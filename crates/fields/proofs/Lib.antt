@@ -1,0 +1,4 @@
+pub mod Colons
+pub mod Pieces
+pub mod Short
+pub mod Texts

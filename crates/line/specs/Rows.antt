@@ -1,0 +1,67 @@
+-- The table that measuring fills: two numbers for each segment of the pool. Assumes nothing.
+use Prim.Native.Nat.{ℕ, _+_, _*_, _-_, _≤_, _<_, _^_}
+use mathlib.Core.Path.{_≡_}
+use mathlib.Core.Bool.{true, false}
+use mathlib.Core.List.{List}
+use lib.Dec.{leb}
+use lib.ListN.{length, getD}
+use Rattle.text.specs.Buffer.{putAt}
+use Rattle.colour.specs.declared.Settings.{Settings}
+use Rattle.colour.specs.declared.Format.{Format}
+use Rattle.colour.specs.Formatting.{prefixIn, padded, inserted, before}
+use Rattle.segments.specs.Segments.{LogSegment}
+use Rattle.segments.specs.Pool.{segmentAt, chainAt, Sound}
+use Rattle.segments.specs.Sizes.{sizes, Lows}
+use Rattle.record.specs.Records.{Record}
+use Rattle.record.specs.Layout.{laidBy}
+use Rattle.line.specs.declared.Row.{Row}
+use Rattle.line.specs.declared.Frame.{Frame}
+use Rattle.line.specs.Places.{placesOf, Short, Readable}
+use Rattle.line.specs.Texts.{segmentText, rawText, isBare, formatOf}
+
+-- row i of a table
+unfoldable pub rowAt : List ℕ → ℕ → Row
+rowAt table i = record { padding = getD table (2 * i) 0; inserted = getD table (2 * i + 1) 0 }
+
+-- the row of a text that is formatted
+unfoldable pub rowIn : Settings → Format → List ℕ → Row
+rowIn s f x = record { padding = padded s f x; inserted = inserted (prefixIn (s .colour) (f .look)) x }
+
+-- the row of a segment: nothing for one that is never formatted
+unfoldable pub rowOf : Settings → List ℕ → Record → LogSegment → Row
+rowOf s t r x =
+    elim (isBare (r .source) x) [
+      | true ↦ record { padding = 0; inserted = 0 }
+      | false ↦ rowIn s (formatOf (r .level) x) (rawText s t r x)
+    ]
+
+-- a format with what a row says of the text
+unfoldable pub frameBy : Format → Row → Frame
+frameBy f w = record {
+  format = f;
+  left = before (f .alignment) (w .padding);
+  right = w .padding - before (f .alignment) (w .padding);
+  inserted = w .inserted;
+}
+
+-- the table holds the rows of the segments below n
+pub record Tabled (s : Settings) (t : List ℕ) (r : Record) (cells table : List ℕ) (n : ℕ) : Type 0 where
+  pub room : 2 * n ≤ length table
+  pub row : (i : ℕ) → i < n → rowAt table i ≡ rowOf s t r (segmentAt cells i)
+
+-- the texts of the segments below n can be counted
+pub record Countable (s : Settings) (t : List ℕ) (r : Record) (cells : List ℕ) (n : ℕ) : Type 0 where
+  pub size : (i : ℕ) → i < n → length (segmentText s t r (segmentAt cells i)) < 2 ^ 57
+
+-- what a line is written from: n segments within bounds, the template that they were read from, and a record
+pub record Writable (cells t d numbers : List ℕ) (n : ℕ) : Type 0 where
+  pub readable : Readable cells d numbers n
+  pub sound : Sound cells n
+  pub few : sizes (chainAt cells n) ≤ 64
+  pub low : Lows 8 (chainAt cells n)
+  pub template : length t ≤ 1024
+  pub texts : Short (laidBy (placesOf numbers) d)
+
+-- a line in a lent buffer: at its front where there is room, else the buffer as it was
+unfoldable pub written : List ℕ → List ℕ → List ℕ
+written d x = elim (leb (length x) (length d)) [ true ↦ putAt d 0 x | false ↦ d ]

@@ -1,0 +1,58 @@
+-- A segment of a template before and after it is formatted, as the code goes about it. Assumes nothing.
+use Prim.Native.Nat.{ℕ}
+use mathlib.Core.Bool.{Bool, true, false}
+use mathlib.Core.List.{List}
+use Rattle.text.specs.Bytes.{part}
+use Rattle.words.specs.declared.LogMetadata.{LogMetadata}
+use Rattle.words.specs.declared.LogMetadata.the-variants.{CrateName, FileName, FilePath, LineNumber, Log, LogLevel, ModulePath, Timestamp}
+use Rattle.colour.specs.declared.Settings.{Settings}
+use Rattle.colour.specs.declared.Format.{Format}
+use Rattle.colour.specs.Shown.{textOf, joined}
+use Rattle.segments.specs.Segments.{LogSegment, LogSegments, text, specifier, group}
+use Rattle.parts.specs.Parts.{unformatted}
+use Rattle.record.specs.declared.Source.{Source}
+use Rattle.record.specs.declared.Level.{Level}
+use Rattle.record.specs.Records.{Record}
+use Rattle.fields.specs.Texts.{wording}
+use Rattle.fields.specs.Formats.{specifierFormat, groupFormat}
+use Rattle.fields.specs.Lines.{segmentShown, segmentsShown}
+
+-- a segment's text, by template t and record r
+abbrev pub segmentText : Settings → List ℕ → Record → LogSegment → List ℕ
+segmentText s t r x = textOf s (segmentShown t r x)
+
+abbrev pub segmentsText : Settings → List ℕ → Record → LogSegments → List ℕ
+segmentsText s t r x = joined s (segmentsShown t r x)
+
+-- the same before it is formatted
+unfoldable pub rawText : Settings → List ℕ → Record → LogSegment → List ℕ
+rawText s t r (text i j) = part i j t
+rawText s t r (specifier m f) = wording r m
+rawText s t r (group x f) = segmentsText s t r x
+
+unfoldable pub isHost : Source → Bool
+isHost Source.Defmt = false
+isHost Source.Host = true
+
+-- a host's message
+unfoldable pub bareFrom : Source → LogMetadata → Bool
+bareFrom q CrateName = false
+bareFrom q (FileName n) = false
+bareFrom q FilePath = false
+bareFrom q LineNumber = false
+bareFrom q Log = isHost q
+bareFrom q LogLevel = false
+bareFrom q ModulePath = false
+bareFrom q Timestamp = false
+
+-- a segment that is never formatted: a text, or a host's message
+unfoldable pub isBare : Source → LogSegment → Bool
+isBare q (text i j) = true
+isBare q (specifier m f) = bareFrom q m
+isBare q (group x f) = false
+
+-- the format of any other
+unfoldable pub formatOf : Level → LogSegment → Format
+formatOf l (text i j) = groupFormat l unformatted
+formatOf l (specifier m f) = specifierFormat l m f
+formatOf l (group x f) = groupFormat l f

@@ -1,0 +1,69 @@
+// The segments that hold no other: parts of the template, and what specifiers show of a record.
+use super::segment::places_at;
+use fields::wordings::wording_of;
+use measure::Measure;
+use measure::growing::add;
+use segments::pool::cell_at;
+use text::buffer::put;
+use text::numbers::least;
+use wording::add_wording;
+use wording::put_wording;
+use words::LogMetadata;
+ghost use mathlib.Core.Path.{_≡_};
+ghost use Prim.Native.Nat.{_+_, _<_, _≤_, _^_};
+ghost use lib.ListN.{length};
+ghost use Rattle.text.specs.Bytes.{part};
+ghost use Rattle.text.specs.Buffer.{putAt};
+ghost use Rattle.measure.specs.Measures.{grown, Small};
+ghost use Rattle.segments.specs.Pool.{cell};
+ghost use Rattle.record.specs.Told.{PlacesWithin};
+ghost use Rattle.fields.specs.Texts.{wording};
+ghost use Rattle.line.specs.Places.{placesOf, recordBy};
+
+// The text at i, which is a part of the template, on top of a measure. Its places are cut to the template, so that any will do.
+pub(crate) fn add_text(cells: &[usize], t: &[u8], i: usize, a: Measure) -> Measure
+    requires { ⌜ (512 ≤ length (now cells)) × (i < 64) ⌝ }
+    requires { ⌜ (Small a) × (a .len + length (part (cell (now cells) i 1) (cell (now cells) i 2) (now t)) < 2 ^ 58) ⌝ }
+    ensures { λ r. ⌜ r ≡ grown a (part (cell (now (cells .entry)) i 1) (cell (now (cells .entry)) i 2) (now (t .entry))) ⌝ }
+{
+    let to = least(cell_at(cells, i, 2), t.len());
+    let from = least(cell_at(cells, i, 1), to);
+    add(a, &t[from..to])
+}
+
+pub(crate) fn put_text(cells: &[usize], t: &[u8], i: usize, out: &mut [u8], at: usize) -> usize
+    requires { ⌜ (512 ≤ length (now cells)) × (i < 64) ⌝ }
+    requires { ⌜ at + length (part (cell (now cells) i 1) (cell (now cells) i 2) (now t)) ≤ length (now out) ⌝ }
+    ensures { λ r. ⌜ (r ≡ at + length (part (cell (now (cells .entry)) i 1) (cell (now (cells .entry)) i 2) (now (t .entry)))) × (now (out .exit) ≡ putAt (now (out .entry)) at (part (cell (now (cells .entry)) i 1) (cell (now (cells .entry)) i 2) (now (t .entry)))) ⌝ }
+{
+    let to = least(cell_at(cells, i, 2), t.len());
+    let from = least(cell_at(cells, i, 1), to);
+    put(out, at, &t[from..to])
+}
+
+// What the specifier m shows, on top of a measure.
+pub(crate) fn add_field(d: &[u8], numbers: &[usize], m: LogMetadata, a: Measure) -> Measure
+    requires { ⌜ (12 ≤ length (now numbers)) × PlacesWithin (length (now d)) (placesOf (now numbers)) ⌝ }
+    requires { ⌜ (Small a) × (a .len + length (wording (recordBy (now numbers) (now d)) m) < 2 ^ 58) ⌝ }
+    ensures { λ r. ⌜ r ≡ grown a (wording (recordBy (now (numbers .entry)) (now (d .entry))) m) ⌝ }
+{
+    let p = places_at(numbers);
+    let w = wording_of(d, p, m);
+    add_wording(d, w, a)
+}
+
+pub(crate) fn put_field(
+    d: &[u8],
+    numbers: &[usize],
+    m: LogMetadata,
+    out: &mut [u8],
+    at: usize,
+) -> usize
+    requires { ⌜ (12 ≤ length (now numbers)) × PlacesWithin (length (now d)) (placesOf (now numbers)) ⌝ }
+    requires { ⌜ at + length (wording (recordBy (now numbers) (now d)) m) ≤ length (now out) ⌝ }
+    ensures { λ r. ⌜ (r ≡ at + length (wording (recordBy (now (numbers .entry)) (now (d .entry))) m)) × (now (out .exit) ≡ putAt (now (out .entry)) at (wording (recordBy (now (numbers .entry)) (now (d .entry))) m)) ⌝ }
+{
+    let p = places_at(numbers);
+    let w = wording_of(d, p, m);
+    put_wording(d, w, out, at)
+}

@@ -1,0 +1,21 @@
+// A line: its segments measured, then written.
+use colour::Format;
+
+mod leaves;
+mod measuring;
+mod segment;
+pub mod writing;
+
+// What is known of a segment before it is written: the padding that it gets, and the bytes inserted into it.
+pub struct Row {
+    pub padding: usize,
+    pub inserted: usize,
+}
+
+// The same with the padding on either side, and the format that it is for.
+pub struct Frame {
+    pub format: Format,
+    pub left: usize,
+    pub right: usize,
+    pub inserted: usize,
+}

@@ -1,0 +1,5 @@
+pub mod Framed
+pub mod Lengths
+pub mod Measured
+pub mod Searched
+pub mod Walked

@@ -1,0 +1,85 @@
+-- The program's output by places in the sheet, as the code walks along it. Assumes nothing.
+use Prim.Native.Nat.{ℕ, zero, suc, _+_, _-_, _*_, _≤_}
+use mathlib.Core.Path.{_≡_}
+use mathlib.Core.Bool.{true}
+use mathlib.Core.List.{List, [], _++_}
+use lib.ListN.{length, getD}
+use Rattle.text.specs.Bytes.{part}
+use Rattle.text.specs.Table.{Maybe, none, some}
+use Rattle.refusals.specs.declared.Refusal.{Refusal}
+use Rattle.segments.specs.Segments.{LogSegments}
+use Rattle.segments.specs.Pool.{chainAt}
+use Rattle.template.specs.Template.{Template, read, refusal, readTemplate}
+use Rattle.template.specs.Told.{ReadKeeps}
+use Rattle.record.specs.Layout.{u32, rightSize, laidOut}
+use Rattle.answer.specs.Answers.{Outcome, recordOutcome, settingsOf}
+use Rattle.sheet.specs.Sheets.{Sheet, bodyCount, contentsEnd, bodiesFrom, bodyBytes, areRecords, isSheet, sheetOf}
+use Rattle.session.specs.declared.Opened.{Opened}
+use Rattle.session.specs.Program.{lineRoom, outcomeLine}
+
+-- ---- opening a sheet
+
+unfoldable pub openedBy : Maybe Sheet → Template
+openedBy none = refusal Refusal.NotASheet
+openedBy (some h) = readTemplate (h .template)
+
+-- refusal 15 of the whole sheet, or what its template gives
+unfoldable pub opening : List ℕ → Template
+opening d = openedBy (sheetOf d)
+
+-- what the code's answer says, with the pool it has filled
+unfoldable pub tellOpened : Opened → List ℕ → Template
+tellOpened (Opened.Open n) cells = read (chainAt cells n)
+tellOpened (Opened.Refused r) cells = refusal r
+
+-- ---- places of an open sheet
+
+-- the template: body 0 without its settings byte
+unfoldable pub templateIn : List ℕ → List ℕ
+templateIn d = part (contentsEnd d + 1) (contentsEnd d + u32 d 2) d
+
+-- where the first record begins
+unfoldable pub recordsFrom : List ℕ → ℕ
+recordsFrom d = contentsEnd d + u32 d 2
+
+-- what a sheet has whose template was read into n segments
+pub record Ready (d cells : List ℕ) (n : ℕ) : Type 0 where
+  pub sheet : isSheet d ≡ true
+  pub pool : 512 ≤ length cells
+  pub keeps : ReadKeeps cells n
+  pub short : length (templateIn d) ≤ 1024
+
+abbrev pub OpenedKeeps : List ℕ → List ℕ → Opened → Type 0
+OpenedKeeps d cells (Opened.Open n) = Ready d cells n
+OpenedKeeps d cells (Opened.Refused r) = Unit {0}
+
+-- a record that lies in the sheet: its length stands at place i, it begins at place j
+pub record Lies (d : List ℕ) (i j : ℕ) : Type 0 where
+  pub length-fits : i + 4 ≤ length d
+  pub body-fits : j + u32 d i ≤ length d
+  pub size : rightSize (part j (j + u32 d i) d) ≡ true
+
+-- m records are left, and they reach to the sheet's end
+pub record Standing (d : List ℕ) (m i j : ℕ) : Type 0 where
+  pub few : m ≤ 65535
+  pub lengths : i + 4 * m ≤ length d
+  pub whole : j + bodyBytes m d i ≡ length d
+  pub records : areRecords (bodiesFrom m d i j) ≡ true
+
+-- ---- what is written
+
+unfoldable pub outcomeAt : List ℕ → LogSegments → ℕ → ℕ → Outcome
+outcomeAt d s i j = recordOutcome (settingsOf (getD d (contentsEnd d) 0)) (templateIn d) s (laidOut (part j (j + u32 d i) d)) lineRoom
+
+-- the line of one record
+unfoldable pub lineAt : List ℕ → LogSegments → ℕ → ℕ → List ℕ
+lineAt d s i j = outcomeLine (outcomeAt d s i j)
+
+-- the lines of m records
+unfoldable pub linesFrom : ℕ → List ℕ → LogSegments → ℕ → ℕ → List ℕ
+linesFrom zero d s i j = []
+linesFrom (suc m) d s i j = lineAt d s i j ++ linesFrom m d s (i + 4) (j + u32 d i)
+
+-- the lines of all records
+unfoldable pub allLines : List ℕ → LogSegments → List ℕ
+allLines d s = linesFrom (bodyCount d - 1) d s 6 (recordsFrom d)

@@ -1,0 +1,41 @@
+// Opening a sheet: is it one, and is its template read?
+use super::Opened;
+use refusals::Refusal;
+use sheet::body_count;
+use sheet::body_length;
+use sheet::is_sheet;
+use template::Parsed;
+use template::parse::parse;
+ghost use mathlib.Core.Path.{_≡_};
+ghost use mathlib.Core.Bool.{true};
+ghost use Prim.Native.Nat.{_≤_};
+ghost use lib.ListN.{length};
+ghost use Rattle.sheet.specs.Sheets.{isSheet};
+ghost use Rattle.session.specs.Walking.{opening, tellOpened, OpenedKeeps};
+
+// The refusal of the whole sheet, or the segments of its template in the pool.
+pub fn open_sheet(d: &[u8], cells: &mut [usize]) -> Opened
+    requires { ⌜ 512 ≤ length (now cells) ⌝ }
+    ensures told { λ r. ⌜ tellOpened r (now (cells .exit)) ≡ opening (now (d .entry)) ⌝ }
+    ensures keeps { λ r. ⌜ OpenedKeeps (now (d .entry)) (now (cells .exit)) r ⌝ }
+{
+    if is_sheet(d) {
+        return read_template(d, cells);
+    }
+    Opened::Refused(Refusal::NotASheet)
+}
+
+fn read_template(d: &[u8], cells: &mut [usize]) -> Opened
+    requires { ⌜ (isSheet (now d) ≡ true) × (512 ≤ length (now cells)) ⌝ }
+    ensures told { λ r. ⌜ tellOpened r (now (cells .exit)) ≡ opening (now (d .entry)) ⌝ }
+    ensures keeps { λ r. ⌜ OpenedKeeps (now (d .entry)) (now (cells .exit)) r ⌝ }
+{
+    let head = 2 + 4 * body_count(d);
+    let from = head + 1;
+    let to = head + body_length(d, 2);
+    let read = parse(&d[from..to], cells);
+    match read {
+        Parsed::Read(n) => Opened::Open(n),
+        Parsed::Refused(r) => Opened::Refused(r),
+    }
+}

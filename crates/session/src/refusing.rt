@@ -1,0 +1,54 @@
+// The line that stands for a refusal.
+use refusals::Refusal;
+use text::buffer::put;
+ghost use mathlib.Core.Path.{_≡_};
+ghost use Prim.Native.Nat.{_+_, _≤_, _<_};
+ghost use lib.ListN.{length};
+ghost use Rattle.text.specs.Buffer.{putAt};
+ghost use Rattle.refusals.specs.Numbers.{number};
+ghost use Rattle.session.specs.Program.{refusalLine};
+
+// The refusal's number.
+pub fn number_of(r: Refusal) -> u8
+    ensures { λ n. ⌜ (n ≡ number r) × (n ≤ 15) ⌝ }
+{
+    match r {
+        Refusal::TemplateTooLong => 1,
+        Refusal::TemplateNotUtf8 => 2,
+        Refusal::Failure => 3,
+        Refusal::NoMessage => 4,
+        Refusal::TooManySegments => 5,
+        Refusal::TooDeep => 6,
+        Refusal::TooWide => 7,
+        Refusal::TooManyF => 8,
+        Refusal::HalfEscape => 9,
+        Refusal::NameTouchesLetter => 10,
+        Refusal::FieldTooLong => 11,
+        Refusal::FieldNotUtf8 => 12,
+        Refusal::LineTooLong(_) => 13,
+        Refusal::NotARecord => 14,
+        Refusal::NotASheet => 15,
+    }
+}
+
+// The length of the refusal's line.
+pub fn refusal_length(r: Refusal) -> usize
+    ensures { λ n. ⌜ (n ≡ length (refusalLine r)) × (n ≤ 5) ⌝ }
+{
+    if number_of(r) < 10 { 4 } else { 5 }
+}
+
+// Writes the refusal's line at the place `at`, and returns the place after it.
+pub fn put_refusal(r: Refusal, out: &mut [u8], at: usize) -> usize
+    requires { ⌜ at + length (refusalLine r) ≤ length (now out) ⌝ }
+    ensures { λ e. ⌜ (e ≡ at + length (refusalLine r)) × (now (out .exit) ≡ putAt (now (out .entry)) at (refusalLine r)) ⌝ }
+{
+    let n = number_of(r);
+    if n < 10 {
+        let line = [b'!', b' ', b'0' + n, b'\n'];
+        return put(out, at, &line);
+    }
+    // no number has more than two digits, and the first of two is 1
+    let line = [b'!', b' ', b'1', b'0' + (n - 10), b'\n'];
+    put(out, at, &line)
+}

@@ -1,0 +1,4 @@
+pub mod Heads
+pub mod Reading
+pub mod Standing
+pub mod Walk

@@ -1,0 +1,19 @@
+-- `sheet::is_head` meets its contract. Assumes nothing.
+use borrow.Author.Needs.{needs}
+use native.Mathlib.Omega.{arith}
+use mathlib.Core.Path.{sym}
+use Rattle.sheet.proofs.Heads.{no-byte, first-byte}
+use Rattle.sheet.proofs.is_head.Statement.{statement}
+use Rattle.sheet.proofs.is_head.Tie as tie
+
+returns : tie.Need-returns
+returns c = sym (no-byte (c .before .args .body .now) (c .if1 .taken))
+
+shared-slice-read-result : tie.Need-shared-slice-read-result
+shared-slice-read-result c = search needs
+
+returns-2 : tie.Need-returns-2
+returns-2 c = sym (first-byte (c .before .before .args .body .now) (omega (arith, c .before .if1 .left)))
+
+pub is-head-spec : {M : Type 1} → statement M
+is-head-spec = tie.close (tie.spec returns shared-slice-read-result returns-2)

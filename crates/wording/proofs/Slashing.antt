@@ -1,0 +1,41 @@
+-- Laws of the text of components, one after the other: said once, for measuring and for writing. Assumes nothing.
+use mathlib.Core.Path.{_≡_, ap, sym, _∙_}
+use mathlib.Core.List.{List, [], _++_}
+use Prim.Native.Nat.{ℕ, _+_, _<_, _≤_}
+use native.Mathlib.Omega.{arith}
+use lib.ListN.{length, length-append}
+use Rattle.text.specs.Bytes.{bytes, part}
+use Rattle.fields.specs.declared.paths.Component.{Component}
+use Rattle.fields.specs.Paths.{components, lastOf, slashed}
+use Rattle.fields.specs.Remaining.{remaining, listed}
+use Rattle.fields.specs.Texts.{orPlaceholder}
+use Rattle.fields.proofs.Pieces.{name-shown, name-missing, slashed-next, slashed-done}
+use Rattle.wording.specs.Names.{nameText}
+
+-- ---- what remains
+
+module _ (d : List ℕ) (k e : ℕ) (c : Component) (p : remaining k e d ≡ listed c e d) where
+  pub slashed-at : (i j : ℕ) → c ≡ Component.At i j → slashed (remaining k e d) ≡ bytes "/" ++ (part i j d ++ slashed (remaining j e d))
+  slashed-at i j q = slashed-next d k e i j (p ∙ ap (λ (x : Component). listed x e d) q)
+
+  pub slashed-nothing : c ≡ Component.Nothing → slashed (remaining k e d) ≡ []
+  slashed-nothing q = slashed-done d k e (p ∙ ap (λ (x : Component). listed x e d) q)
+
+  -- there is room for a slash and the component
+  pub slashed-room : (i j : ℕ) → c ≡ Component.At i j → 1 + length (part i j d) ≤ length (slashed (remaining k e d))
+  slashed-room i j q = omega (arith, ap length (slashed-at i j q), length-append (part i j d) (slashed (remaining j e d)))
+
+-- ---- the whole name
+
+module _ (d : List ℕ) (f e n : ℕ) (c : Component) (p : listed c e d ≡ lastOf n (components (part f e d))) where
+  -- the first component has no slash before it
+  pub name-at : (i j : ℕ) → c ≡ Component.At i j → nameText f e n d ≡ part i j d ++ slashed (remaining j e d)
+  unfolding orPlaceholder
+  name-at i j q = ap (orPlaceholder (bytes "<file>")) (name-shown d f e n i j (ap (λ (x : Component). listed x e d) (sym q) ∙ p))
+
+  pub name-nothing : c ≡ Component.Nothing → nameText f e n d ≡ bytes "<file>"
+  unfolding orPlaceholder
+  name-nothing q = ap (orPlaceholder (bytes "<file>")) (name-missing d f e n (ap (λ (x : Component). listed x e d) (sym q) ∙ p))
+
+  pub name-room : (i j : ℕ) → c ≡ Component.At i j → length (part i j d) ≤ length (nameText f e n d)
+  name-room i j q = omega (arith, ap length (name-at i j q), length-append (part i j d) (slashed (remaining j e d)))

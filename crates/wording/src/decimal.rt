@@ -1,0 +1,54 @@
+// A number in decimal digits.
+use measure::Measure;
+use measure::growing::add;
+use text::buffer::put;
+ghost use mathlib.Core.Path.{_≡_};
+ghost use Prim.Native.Nat.{_+_, _<_, _≤_, _^_};
+ghost use lib.ListN.{length};
+ghost use Rattle.text.specs.Bytes.{part};
+ghost use Rattle.text.specs.Buffer.{putAt};
+ghost use Rattle.fields.specs.Texts.{decimalText};
+ghost use Rattle.measure.specs.Measures.{grown, Small};
+
+pub(crate) fn add_number(n: usize, a: Measure) -> Measure
+    requires { ⌜ n < 2 ^ 32 ⌝ }
+    requires { ⌜ (Small a) × (a .len + length (decimalText n) < 2 ^ 58) ⌝ }
+    ensures { λ r. ⌜ r ≡ grown a (decimalText n) ⌝ }
+{
+    let mut into = [0; 10];
+    let from = decimal(n, &mut into);
+    add(a, &into[from..10])
+}
+
+pub(crate) fn put_number(n: usize, out: &mut [u8], at: usize) -> usize
+    requires { ⌜ n < 2 ^ 32 ⌝ }
+    requires { ⌜ at + length (decimalText n) ≤ length (now out) ⌝ }
+    ensures { λ r. ⌜ (r ≡ at + length (decimalText n)) × (now (out .exit) ≡ putAt (now (out .entry)) at (decimalText n)) ⌝ }
+{
+    let mut into = [0; 10];
+    let from = decimal(n, &mut into);
+    put(out, at, &into[from..10])
+}
+
+fn digit(n: usize) -> u8
+    requires { ⌜ n < 10 ⌝ }
+    ensures { λ r. ⌜ r ≡ 0x30 + n ⌝ }
+{
+    b'0' + n as u8
+}
+
+// Writes the digits of n at the end of the ten places of `into`, from the last one on, and returns the place of the first.
+fn decimal(n: usize, into: &mut [u8]) -> usize
+    requires { ⌜ (n < 2 ^ 32) × (length (now into) ≡ 10) ⌝ }
+    ensures { λ r. ⌜ (r ≤ 10) × (part r 10 (now (into .exit)) ≡ decimalText n) ⌝ }
+{
+    let mut left = n;
+    let mut i = 9;
+    while 10 <= left {
+        into[i] = digit(left % 10);
+        left = left / 10;
+        i -= 1;
+    }
+    into[i] = digit(left);
+    i
+}

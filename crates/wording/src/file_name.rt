@@ -1,0 +1,88 @@
+// "`{f}` repeated n times: the last n path components joined by `/`".
+use fields::paths::Component;
+use fields::paths::first_shown;
+use fields::paths::next_component;
+use measure::Measure;
+use measure::growing::add;
+use text::buffer::put;
+ghost use mathlib.Core.Path.{_≡_};
+ghost use Prim.Native.Nat.{_+_, _<_, _≤_, _^_};
+ghost use lib.ListN.{length};
+ghost use Rattle.text.specs.Buffer.{putAt};
+ghost use Rattle.fields.specs.Paths.{slashed};
+ghost use Rattle.fields.specs.Remaining.{remaining};
+ghost use Rattle.measure.specs.Measures.{grown, Small};
+ghost use Rattle.wording.specs.Names.{nameText};
+
+// Measures the last n components of the path from place i up to place e.
+pub(crate) fn add_file_name(d: &[u8], i: usize, e: usize, n: usize, a: Measure) -> Measure
+    requires { ⌜ (i ≤ e) × (e ≤ length (now d)) ⌝ }
+    requires { ⌜ (Small a) × (a .len + length (nameText i e n (now d)) < 2 ^ 58) ⌝ }
+    ensures { λ r. ⌜ r ≡ grown a (nameText i e n (now (d .entry))) ⌝ }
+{
+    let first = first_shown(d, i, e, n);
+    let Component::At(from, to) = first else {
+        return add(a, b"<file>");
+    };
+    let b = add(a, &d[from..to]);
+    add_slashed(d, to, e, b)
+}
+
+// Measures the components that remain from place i on, a slash before each.
+fn add_slashed(d: &[u8], i: usize, e: usize, a: Measure) -> Measure
+    requires { ⌜ (i ≤ e) × (e ≤ length (now d)) ⌝ }
+    requires { ⌜ (Small a) × (a .len + length (slashed (remaining i e (now d))) < 2 ^ 58) ⌝ }
+    ensures { λ r. ⌜ r ≡ grown a (slashed (remaining i e (now (d .entry)))) ⌝ }
+{
+    let mut k = i;
+    let mut b = a;
+    loop {
+        let c = next_component(d, k, e);
+        let Component::At(from, to) = c else {
+            return b;
+        };
+        b = add(b, b"/");
+        b = add(b, &d[from..to]);
+        k = to;
+    }
+}
+
+// Writes the last n components of the path from place i up to place e.
+pub(crate) fn put_file_name(
+    d: &[u8],
+    i: usize,
+    e: usize,
+    n: usize,
+    out: &mut [u8],
+    at: usize,
+) -> usize
+    requires { ⌜ (i ≤ e) × (e ≤ length (now d)) ⌝ }
+    requires { ⌜ at + length (nameText i e n (now d)) ≤ length (now out) ⌝ }
+    ensures { λ r. ⌜ (r ≡ at + length (nameText i e n (now (d .entry)))) × (now (out .exit) ≡ putAt (now (out .entry)) at (nameText i e n (now (d .entry)))) ⌝ }
+{
+    let first = first_shown(d, i, e, n);
+    let Component::At(from, to) = first else {
+        return put(out, at, b"<file>");
+    };
+    let y = put(out, at, &d[from..to]);
+    put_slashed(d, to, e, out, y)
+}
+
+// Writes the components that remain from place i on, a slash before each.
+fn put_slashed(d: &[u8], i: usize, e: usize, out: &mut [u8], at: usize) -> usize
+    requires { ⌜ (i ≤ e) × (e ≤ length (now d)) ⌝ }
+    requires { ⌜ at + length (slashed (remaining i e (now d))) ≤ length (now out) ⌝ }
+    ensures { λ r. ⌜ (r ≡ at + length (slashed (remaining i e (now (d .entry))))) × (now (out .exit) ≡ putAt (now (out .entry)) at (slashed (remaining i e (now (d .entry))))) ⌝ }
+{
+    let mut k = i;
+    let mut y = at;
+    loop {
+        let c = next_component(d, k, e);
+        let Component::At(from, to) = c else {
+            return y;
+        };
+        y = put(out, y, b"/");
+        y = put(out, y, &d[from..to]);
+        k = to;
+    }
+}

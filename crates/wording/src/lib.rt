@@ -1,0 +1,49 @@
+// A specifier's text, measured and written: two functions that agree on `bytesOf`.
+use decimal::add_number;
+use decimal::put_number;
+use fields::Wording;
+use file_name::add_file_name;
+use file_name::put_file_name;
+use fixed::add_fixed;
+use fixed::put_fixed;
+use measure::Measure;
+use measure::growing::add;
+use text::buffer::put;
+ghost use mathlib.Core.Path.{_≡_};
+ghost use Prim.Native.Nat.{_+_, _<_, _≤_, _^_};
+ghost use lib.ListN.{length};
+ghost use Rattle.text.specs.Buffer.{putAt};
+ghost use Rattle.fields.specs.Wordings.{bytesOf, WordingWithin};
+ghost use Rattle.measure.specs.Measures.{grown, Small};
+
+mod decimal;
+mod file_name;
+mod fixed;
+
+// The measure of what a measures, then the text that w stands for in the record's bytes d.
+pub fn add_wording(d: &[u8], w: Wording, a: Measure) -> Measure
+    requires { ⌜ WordingWithin (length (now d)) w ⌝ }
+    requires { ⌜ (Small a) × (a .len + length (bytesOf w (now d)) < 2 ^ 58) ⌝ }
+    ensures { λ r. ⌜ r ≡ grown a (bytesOf w (now (d .entry))) ⌝ }
+{
+    match w {
+        Wording::Part(i, j) => add(a, &d[i..j]),
+        Wording::Fixed(x) => add_fixed(x, a),
+        Wording::Number(n) => add_number(n, a),
+        Wording::Components(i, j, n) => add_file_name(d, i, j, n, a),
+    }
+}
+
+// Writes the text that w stands for in the record's bytes d, and returns the place after it.
+pub fn put_wording(d: &[u8], w: Wording, out: &mut [u8], at: usize) -> usize
+    requires { ⌜ WordingWithin (length (now d)) w ⌝ }
+    requires { ⌜ at + length (bytesOf w (now d)) ≤ length (now out) ⌝ }
+    ensures { λ r. ⌜ (r ≡ at + length (bytesOf w (now (d .entry)))) × (now (out .exit) ≡ putAt (now (out .entry)) at (bytesOf w (now (d .entry)))) ⌝ }
+{
+    match w {
+        Wording::Part(i, j) => put(out, at, &d[i..j]),
+        Wording::Fixed(x) => put_fixed(x, out, at),
+        Wording::Number(n) => put_number(n, out, at),
+        Wording::Components(i, j, n) => put_file_name(d, i, j, n, out, at),
+    }
+}
