@@ -133,6 +133,11 @@ impl Maker {
                 self.alike("examples", settings, template, vec![saying(message)]);
             }
         }
+        for template in ["{ff}{s}", "{fff}{s}"] {
+            let record = Record { mask: FILE, file: b"/a/b.rs".to_vec(), ..info() };
+            self.alike("examples", 0, template, vec![record]);
+        }
+        self.parted(7, "examples", "{s:513}", info());
     }
 
     /// Every specifier with every parameter; every colour word in four ways to write it.
