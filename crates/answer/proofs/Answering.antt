@@ -227,24 +227,6 @@ module _ (settings : ℕ) (t d : List ℕ) (room : ℕ) where
   unfolding callOutcome isCall
   is-call h e = rw (lt-ltb settings 4 h, e, callOutcome)
 
--- a refusal's number leaves the other bits to a length
-pub number-small : (r : Refusal) → number r ≤ 15
-number-small Refusal.TemplateTooLong = omega arith
-number-small Refusal.TemplateNotUtf8 = omega arith
-number-small Refusal.Failure = omega arith
-number-small Refusal.NoMessage = omega arith
-number-small Refusal.TooManySegments = omega arith
-number-small Refusal.TooDeep = omega arith
-number-small Refusal.TooWide = omega arith
-number-small Refusal.TooManyF = omega arith
-number-small Refusal.HalfEscape = omega arith
-number-small Refusal.NameTouchesLetter = omega arith
-number-small Refusal.FieldTooLong = omega arith
-number-small Refusal.FieldNotUtf8 = omega arith
-number-small (Refusal.LineTooLong n) = omega arith
-number-small Refusal.NotARecord = omega arith
-number-small Refusal.NotASheet = omega arith
-
 -- ---- a template alone
 
 module _ (t : List ℕ) (c : LogSegments) (e : readTemplate t ≡ read c) where

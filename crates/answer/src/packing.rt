@@ -2,14 +2,14 @@
 use super::Answer;
 use refusals::Refusal;
 ghost use mathlib.Core.Path.{_≡_};
-ghost use Prim.Native.Nat.{_+_, _*_, _<_, _^_};
+ghost use Prim.Native.Nat.{_+_, _*_, _<_, _≤_, _^_};
 ghost use Rattle.refusals.specs.Numbers.{number};
 ghost use Rattle.answer.specs.Answers.{lengthWith};
 ghost use Rattle.answer.specs.Rooms.{Packable, packedAnswer};
 
 // The number of a refusal.
-pub fn number_of(r: Refusal) -> u64
-    ensures { λ n. ⌜ n ≡ number r ⌝ }
+pub fn number_of(r: Refusal) -> u8
+    ensures { λ n. ⌜ (n ≡ number r) × (n ≤ 15) ⌝ }
 {
     match r {
         Refusal::TemplateTooLong => 1,
@@ -57,7 +57,7 @@ fn pack_refusal(r: Refusal) -> u64
     requires { ⌜ lengthWith r < 2 ^ 56 ⌝ }
     ensures { λ n. ⌜ n ≡ number r + 256 * lengthWith r ⌝ }
 {
-    number_of(r) + 256 * (length_with(r) as u64)
+    (number_of(r) as u64) + 256 * (length_with(r) as u64)
 }
 
 // The number of a refusal in the low eight bits, and a length in the others.

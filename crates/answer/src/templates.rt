@@ -15,7 +15,7 @@ pub fn check_template(t: &[u8]) -> u64
     let read = parse(t, &mut cells);
     match read {
         Parsed::Read(_) => 0,
-        Parsed::Refused(r) => number_of(r),
+        Parsed::Refused(r) => number_of(r) as u64,
     }
 }
 
@@ -32,6 +32,6 @@ pub fn names_timestamp(t: &[u8]) -> u64
             }
             0
         }
-        Parsed::Refused(r) => number_of(r),
+        Parsed::Refused(r) => number_of(r) as u64,
     }
 }

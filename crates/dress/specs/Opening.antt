@@ -4,16 +4,11 @@ use mathlib.Core.Path.{_≡_}
 use mathlib.Core.Bool.{Bool, cond}
 use mathlib.Core.List.{List, [], _∷_, _++_}
 use lib.Dec.{eqb}
-use lib.ListN.{length, take}
+use lib.ListN.{take}
 use Rattle.text.specs.Bytes.{bytes}
 use Rattle.words.specs.declared.Color.{Color}
 use Rattle.words.specs.declared.Color.the-variants.{Black, Red, Green, Yellow, Blue, Magenta, Cyan, White, BrightBlack, BrightWhite}
 use Rattle.colour.specs.Looks.{where-it-applies, following}
-use Rattle.dress.specs.declared.prefix.Prefix.{Prefix}
-
--- the bytes of a prefix
-unfoldable pub written : Prefix → List ℕ
-written p = take (p .len) (p .bytes)
 
 -- what stands before a code: `[` where byte 27 alone stands before it, else `;`
 unfoldable pub between : ℕ → ℕ
@@ -24,12 +19,11 @@ abbrev pub joined : ℕ → List (List ℕ) → List ℕ
 joined b [] = []
 joined b (c ∷ cs) = b ∷ c ++ following cs
 
--- p became r, with the code of a style where it applies, whatever codes are still to come
-pub record Coded (p r : Prefix) (x : Bool) (code : ℕ) : Type 0 where
-  pub text : (cs : List (List ℕ)) → written r ++ joined (between (r .len)) cs ≡ written p ++ joined (between (p .len)) (where-it-applies x (code ∷ []) cs)
-  pub size : length (r .bytes) ≡ 16
-  pub least : p .len ≤ r .len
-  pub most : r .len ≤ p .len + 2
+-- the first n bytes of d became the first m of d′, with the code of a style where it applies, whatever codes are still to come
+pub record Coded (d d′ : List ℕ) (n m : ℕ) (x : Bool) (code : ℕ) : Type 0 where
+  pub text : (cs : List (List ℕ)) → take m d′ ++ joined (between m) cs ≡ take n d ++ joined (between n) (where-it-applies x (code ∷ []) cs)
+  pub least : n ≤ m
+  pub most : m ≤ n + 2
 
 -- the sequence with its `m`; byte 27 alone begins none
 abbrev pub closed : List ℕ → List ℕ

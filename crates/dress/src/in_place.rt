@@ -1,6 +1,6 @@
 // A text formatted where it stands. It stands where its finished form will end, so that it is streamed forward: the place read is
 // never before the place written.
-use super::prefix::prefix_bytes;
+use super::prefix::put_prefix;
 use colour::Act;
 use colour::Format;
 use colour::State;
@@ -29,9 +29,8 @@ pub fn dress(out: &mut [u8], at: usize, i: usize, e: usize, f: Format, l: usize,
     ensures { λ n. ⌜ (n ≡ e + (r + 4)) × (now (out .exit) ≡ putAt (now (out .entry)) at (prefix (f .look) ++ (replicate l (padByte (f .padding)) ++ (reinserted (prefix (f .look)) (part i e (now (out .entry))) ++ (replicate r (padByte (f .padding)) ++ reset))))) ⌝ }
 {
     let look = f.look;
-    let p = prefix_bytes(look);
-    let n = p.len;
-    let bytes = p.bytes;
+    let mut bytes: [u8; 16] = [0; 16];
+    let n = put_prefix(look, &mut bytes);
     let padding = f.padding;
     lay(out, at, i, e, &bytes[0..n], pad_byte(padding), l, r)
 }

@@ -3,11 +3,11 @@ use colour::Ink;
 use colour::Look;
 use words::Color;
 ghost use mathlib.Core.Path.{_≡_};
-ghost use mathlib.Core.List.{[], _∷_, _++_};
+ghost use mathlib.Core.List.{_++_};
 ghost use Prim.Native.Nat.{_+_, _<_, _≤_};
-ghost use lib.ListN.{length};
+ghost use lib.ListN.{length, take};
 ghost use Rattle.colour.specs.Looks.{prefix, inkCodes};
-ghost use Rattle.dress.specs.Opening.{written, between, joined, closed, foregroundAt, Coded};
+ghost use Rattle.dress.specs.Opening.{between, joined, closed, foregroundAt, Coded};
 
 // A code is a digit for a style and two for a colour.
 const STYLES: [u8; 5] = [b'1', b'2', b'4', b'3', b'9'];
@@ -35,57 +35,50 @@ const FOREGROUND: [u8; 20] = [
     b'7',
 ];
 
-// The bytes of a prefix, at the front of 16: the longest has 15.
-pub struct Prefix {
-    pub bytes: [u8; 16],
-    pub len: usize,
-}
-
-// The prefix of a look; no byte where no colour or style applies.
-pub fn prefix_bytes(k: Look) -> Prefix
-    ensures { λ r. ⌜ (written r ≡ prefix k) × ((r .len ≡ length (prefix k)) × (r .len ≤ 15)) ⌝ }
+// Writes the prefix of a look at the front of `into`, and returns its length: at most 15, and 0 where no colour or style applies.
+// It is built in a lent buffer, code after code: a struct that holds it would be copied at each byte.
+pub fn put_prefix(k: Look, into: &mut [u8]) -> usize
+    requires { ⌜ 16 ≤ length (now into) ⌝ }
+    ensures { λ r. ⌜ (r ≡ length (prefix k)) × ((take r (now (into .exit)) ≡ prefix k) × (length (now (into .exit)) ≡ length (now (into .entry)))) ⌝ }
 {
     let s = k.styles;
-    let escape = push(
-        Prefix {
-            bytes: [0; 16],
-            len: 0,
-        },
-        27,
-    );
-    let bold = with_style(escape, s.bold, STYLES[0]);
-    let dimmed = with_style(bold, s.dimmed, STYLES[1]);
-    let underline = with_style(dimmed, s.underline, STYLES[2]);
-    let italic = with_style(underline, s.italic, STYLES[3]);
-    let strike = with_style(italic, s.strike, STYLES[4]);
+    into[0] = 27;
+    let bold = with_style(into, 1, s.bold, STYLES[0]);
+    let dimmed = with_style(into, bold, s.dimmed, STYLES[1]);
+    let underline = with_style(into, dimmed, s.underline, STYLES[2]);
+    let italic = with_style(into, underline, s.italic, STYLES[3]);
+    let strike = with_style(into, italic, s.strike, STYLES[4]);
     let ink = k.ink;
-    ended(with_ink(strike, ink))
+    let n = with_ink(into, strike, ink);
+    ended(into, n)
 }
 
-// With the code of a style, where the style applies.
-fn with_style(p: Prefix, on: bool, code: u8) -> Prefix
-    requires { ⌜ (length (p .bytes) ≡ 16) × ((1 ≤ p .len) × (p .len + 2 ≤ 16)) ⌝ }
-    ensures { λ r. ⌜ Coded p r on code ⌝ }
+// Writes the code of a style after the first n bytes, where the style applies, and returns the place after it.
+fn with_style(into: &mut [u8], n: usize, on: bool, code: u8) -> usize
+    requires { ⌜ (1 ≤ n) × (n + 2 ≤ length (now into)) ⌝ }
+    ensures { λ r. ⌜ Coded (now (into .entry)) (now (into .exit)) n r on code ⌝ }
 {
     if on {
-        return push(push(p, separator(p.len)), code);
+        into[n] = separator(n);
+        into[n + 1] = code;
+        return n + 2;
     }
-    p
+    n
 }
 
-// With the code of the colour, where one applies.
-fn with_ink(p: Prefix, ink: Ink) -> Prefix
-    requires { ⌜ (length (p .bytes) ≡ 16) × ((1 ≤ p .len) × (p .len + 3 ≤ 16)) ⌝ }
-    ensures { λ r. ⌜ (written r ≡ written p ++ joined (between (p .len)) (inkCodes ink)) × ((length (r .bytes) ≡ 16) × ((p .len ≤ r .len) × (r .len ≤ p .len + 3))) ⌝ }
+// Writes the code of the colour after the first n bytes, where one applies, and returns the place after it.
+fn with_ink(into: &mut [u8], n: usize, ink: Ink) -> usize
+    requires { ⌜ n + 3 ≤ length (now into) ⌝ }
+    ensures { λ r. ⌜ (take r (now (into .exit)) ≡ take n (now (into .entry)) ++ joined (between n) (inkCodes ink)) × ((n ≤ r) × (r ≤ n + 3)) ⌝ }
 {
     let Ink::Inked(c) = ink else {
-        return p;
+        return n;
     };
     let i = foreground_at(c);
-    push(
-        push(push(p, separator(p.len)), FOREGROUND[i]),
-        FOREGROUND[i + 1],
-    )
+    into[n] = separator(n);
+    into[n + 1] = FOREGROUND[i];
+    into[n + 2] = FOREGROUND[i + 1];
+    n + 3
 }
 
 // Where the code of a colour stands in the table.
@@ -106,18 +99,16 @@ fn foreground_at(c: Color) -> usize
     }
 }
 
-// With the `m` that ends the sequence; nothing where byte 27 was not followed by a code.
-fn ended(p: Prefix) -> Prefix
-    requires { ⌜ (length (p .bytes) ≡ 16) × ((1 ≤ p .len) × (p .len < 16)) ⌝ }
-    ensures { λ r. ⌜ (written r ≡ closed (written p)) × (r .len ≡ length (written r)) ⌝ }
+// Writes the `m` that ends the sequence after the first n bytes, and returns the place after it; 0 where byte 27 stands alone.
+fn ended(into: &mut [u8], n: usize) -> usize
+    requires { ⌜ (1 ≤ n) × (n < length (now into)) ⌝ }
+    ensures { λ r. ⌜ (take r (now (into .exit)) ≡ closed (take n (now (into .entry)))) × (r ≡ length (closed (take n (now (into .entry))))) ⌝ }
 {
-    if p.len == 1 {
-        return Prefix {
-            bytes: [0; 16],
-            len: 0,
-        };
+    if n == 1 {
+        return 0;
     }
-    push(p, b'm')
+    into[n] = b'm';
+    n + 1
 }
 
 // What stands before a code that n bytes stand before: `[` after byte 27 alone, else `;`.
@@ -128,14 +119,4 @@ fn separator(n: usize) -> u8
         return b'[';
     }
     b';'
-}
-
-fn push(p: Prefix, b: u8) -> Prefix
-    requires { ⌜ (length (p .bytes) ≡ 16) × (p .len < 16) ⌝ }
-    ensures { λ r. ⌜ (written r ≡ written p ++ b ∷ []) × ((length (r .bytes) ≡ 16) × (r .len ≡ p .len + 1)) ⌝ }
-{
-    let n = p.len;
-    let mut bytes = p.bytes;
-    bytes[n] = b;
-    Prefix { bytes, len: n + 1 }
 }

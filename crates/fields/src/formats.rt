@@ -80,7 +80,7 @@ fn width_for(own: usize, asked: Width) -> usize
 {
     match asked {
         Width::Default => own,
-        Width::Given(n) => n,
+        Width::Given(n) => n as usize,
     }
 }
 

@@ -29,7 +29,7 @@ pub fn wording_of(d: &[u8], p: Places, m: LogMetadata) -> Wording
 {
     match m {
         LogMetadata::CrateName => build_crate_name(d, p),
-        LogMetadata::FileName(n) => build_file_name(p, n),
+        LogMetadata::FileName(n) => build_file_name(p, n as usize),
         LogMetadata::FilePath => build_file_path(p),
         LogMetadata::LineNumber => Wording::Number(p.line),
         LogMetadata::Log => Wording::Part(p.message_from, p.message_to),

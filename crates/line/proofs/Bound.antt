@@ -29,7 +29,7 @@ use Rattle.line.specs.Rows.{Countable, Writable}
 use Rattle.line.proofs.Segments.{segment-bare, segment-formatted}
 use Rattle.line.proofs.Wordings.{wording-short}
 
--- the longest text of a segment that holds no other, and sixteen times that for each level of groups
+-- more than the longest text of a segment that holds no other, and sixteen times that for each level of groups
 abbrev scale : ℕ → ℕ
 scale zero = 2 ^ 18
 scale (suc d) = 16 * scale d
@@ -68,12 +68,13 @@ part-small i j t = omega (arith, length-take (j - i) (drop i t), length-drop i t
 swap : (a b : ℕ) → a * (16 * b) ≡ 16 * (a * b)
 swap a b = sym (mul-assoc a 16 b) ∙ ap (λ (y : ℕ). y * b) (mul-comm a 16) ∙ mul-assoc 16 a b
 
+-- each segment has a byte to spare, so that the sum stays below the bound
 module _ (s : Settings) (t : List ℕ) (r : Record) (short : length t ≤ 1024) (fields : (m : LogMetadata) → length (wording r m) ≤ 8200) where
-  specifier-small : (m : LogMetadata) (f : LogFormat) → Narrow (f .width) → length (segmentText s t r (specifier m f)) ≤ 2 ^ 18
+  specifier-small : (m : LogMetadata) (f : LogFormat) → Narrow (f .width) → length (segmentText s t r (specifier m f)) < 2 ^ 18
   unfolding rawText formatOf
   specifier-small m f h = by (isBare (r .source) (specifier m f)) refl
     where
-      by : (b : Bool) → isBare (r .source) (specifier m f) ≡ b → length (segmentText s t r (specifier m f)) ≤ 2 ^ 18
+      by : (b : Bool) → isBare (r .source) (specifier m f) ≡ b → length (segmentText s t r (specifier m f)) < 2 ^ 18
       by true e = omega (arith, ap length (segment-bare s t r (specifier m f) e), fields m)
       by false e = omega (
         arith,
@@ -86,7 +87,7 @@ module _ (s : Settings) (t : List ℕ) (r : Record) (short : length t ≤ 1024) 
   mutual
     unfolding size sizes segmentShown segmentsShown textOf joined
 
-    segment-small : (d : ℕ) (x : LogSegment) → Low d x → length (segmentText s t r x) ≤ size x * scale d
+    segment-small : (d : ℕ) (x : LogSegment) → Low d x → length (segmentText s t r x) + size x ≤ size x * scale d
     segment-small d (text i j) h = omega (arith, part-small i j t, one-mul (scale d), scale-least d)
     segment-small d (specifier m f) h = omega (arith, specifier-small m f h, one-mul (scale d), scale-least d)
     segment-small zero (group xs f) h = absurd h
@@ -102,7 +103,7 @@ module _ (s : Settings) (t : List ℕ) (r : Record) (short : length t ≤ 1024) 
           scale-least d,
         )
 
-    segments-small : (d : ℕ) (xs : LogSegments) → Lows d xs → length (segmentsText s t r xs) ≤ sizes xs * scale d
+    segments-small : (d : ℕ) (xs : LogSegments) → Lows d xs → length (segmentsText s t r xs) + sizes xs ≤ sizes xs * scale d
     segments-small d none h = omega arith
     segments-small d (more x rest) h =
         omega (
@@ -116,7 +117,7 @@ module _ (s : Settings) (t : List ℕ) (r : Record) (short : length t ≤ 1024) 
   pub segment-counted : (x : LogSegment) → Low 8 x → size x ≤ 64 → length (segmentText s t r x) < 2 ^ 57
   segment-counted x h g = omega (arith, segment-small 8 x h, mul-le-mul-right (scale 8) g)
 
-  pub segments-counted : (xs : LogSegments) → Lows 8 xs → sizes xs ≤ 64 → length (segmentsText s t r xs) < 2 ^ 57
+  pub segments-counted : (xs : LogSegments) → Lows 8 xs → sizes xs ≤ 64 → length (segmentsText s t r xs) < 2 ^ 56
   segments-counted xs h g = omega (arith, segments-small 8 xs h, mul-le-mul-right (scale 8) g)
 
 -- so every text of a line's segments can be counted, and so can the line
@@ -131,4 +132,4 @@ module _ (s : Settings) (cells t d numbers : List ℕ) (n : ℕ) (w : Writable c
   }
 
   pub line-counted : length (segmentsText s t (recordBy numbers d) (chainAt cells n)) < 2 ^ 57
-  line-counted = segments-counted s t (recordBy numbers d) (w .template) fields-short (chainAt cells n) (w .low) (w .few)
+  line-counted = omega (arith, segments-counted s t (recordBy numbers d) (w .template) fields-short (chainAt cells n) (w .low) (w .few))

@@ -1,3 +1,4 @@
+pub mod Links
 pub mod Places
 pub mod Texts
 pub mod Rows

@@ -3,13 +3,15 @@ use colour::Format;
 
 mod leaves;
 mod measuring;
+mod members;
 mod segment;
 pub mod writing;
 
-// What is known of a segment before it is written: the padding that it gets, and the bytes inserted into it.
+// What is known of a segment before it is written: the padding that it gets, the bytes inserted into it, and how long it is in all.
 pub struct Row {
     pub padding: usize,
     pub inserted: usize,
+    pub len: usize,
 }
 
 // The same with the padding on either side, and the format that it is for.

@@ -1,9 +1,13 @@
-// Measuring a line's segments. A sequence of bytes that switches a colour can begin in one segment and end in the next, so that a line is
-// measured as a whole: each text goes on top of the measure of all before it, and what a group inserts and pads is looked up in a table, which
-// is filled segment by segment. So no text is measured more often than groups stand around it.
+// Measuring a line's segments. A sequence of bytes that switches a colour can begin in one segment and end in the next, so that a group's
+// members are measured as a whole: each text goes on top of the measure of all before it, and what a group inserts and pads is looked up in a
+// table, which is filled segment by segment. So no text is measured more often than groups stand around it. The table has the lengths too: a
+// text with nothing around it is only counted, and a line is as long as its segments together.
 use super::Row;
 use super::leaves::add_field;
 use super::leaves::add_text;
+use super::leaves::field_len;
+use super::leaves::text_len;
+use super::members::member_after;
 use super::segment::format_of;
 use super::segment::frame_at;
 use super::segment::is_bare;
@@ -20,13 +24,15 @@ use segments::pool::back_at;
 use segments::pool::kind_at;
 use segments::pool::last_at;
 ghost use mathlib.Core.Path.{_≡_};
+ghost use mathlib.Core.Bool.{cond};
 ghost use Prim.Native.Nat.{_+_, _*_, _<_, _≤_, _^_};
+ghost use lib.Dec.{eqb};
 ghost use lib.ListN.{length};
 ghost use Rattle.measure.specs.Measures.{grown, Small};
 ghost use Rattle.segments.specs.Pool.{segmentAt, chainAt};
 ghost use Rattle.line.specs.Places.{recordBy, Readable};
 ghost use Rattle.line.specs.Texts.{segmentText, segmentsText, rawText};
-ghost use Rattle.line.specs.Rows.{rowOf, Tabled, Countable};
+ghost use Rattle.line.specs.Rows.{bareRow, rowOf, lengthsBack, Tabled, Countable};
 
 // The text of the segment at i on top of a measure, before it is formatted.
 fn raw_of(
@@ -52,8 +58,8 @@ fn raw_of(
     }
 }
 
-// The members back from the link `l`.
-pub(crate) fn join_of(
+// The members back from the link `l`, one after the other in a loop: so the stack grows with groups inside groups, and not with members.
+fn join_of(
     cells: &[usize],
     table: &[usize],
     t: &[u8],
@@ -68,12 +74,13 @@ pub(crate) fn join_of(
     requires { ⌜ (Small a) × (a .len + length (segmentsText s (now t) (recordBy (now numbers) (now d)) (chainAt (now cells) l)) < 2 ^ 57) ⌝ }
     ensures { λ r. ⌜ r ≡ grown a (segmentsText s (now (t .entry)) (recordBy (now (numbers .entry)) (now (d .entry))) (chainAt (now (cells .entry)) l)) ⌝ }
 {
-    if l == 0 {
-        return a;
+    let mut b = a;
+    let mut j = 0;
+    while j < l {
+        j = member_after(cells, l, j);
+        b = seg_of(cells, table, t, d, numbers, s, j - 1, b);
     }
-    let i = l - 1;
-    let b = join_of(cells, table, t, d, numbers, s, back_at(cells, i), a);
-    seg_of(cells, table, t, d, numbers, s, i, b)
+    b
 }
 
 // The segment at i, formatted.
@@ -102,6 +109,67 @@ fn seg_of(
     closed(c, s, f, w.inserted, w.right)
 }
 
+// The bytes of the members back from the link `l`, by their rows.
+pub(crate) fn members_len(cells: &[usize], table: &[usize], l: usize) -> usize
+    requires { ⌜ (512 ≤ length (now cells)) × ((l ≤ 64) × (3 * l ≤ length (now table))) ⌝ }
+    requires { ⌜ lengthsBack (now cells) (now table) l < 2 ^ 57 ⌝ }
+    ensures { λ r. ⌜ r ≡ lengthsBack (now (cells .entry)) (now (table .entry)) l ⌝ }
+{
+    let mut k = l;
+    let mut n = 0;
+    while 0 < k {
+        let i = k - 1;
+        n += table[3 * i + 2];
+        k = back_at(cells, i);
+    }
+    n
+}
+
+// The bytes of the text of the segment at i, before it is formatted. The settings are those that the table was filled with.
+fn raw_len(
+    cells: &[usize],
+    table: &[usize],
+    t: &[u8],
+    d: &[u8],
+    numbers: &[usize],
+    s: Settings,
+    i: usize,
+) -> usize
+    requires { ⌜ Readable (now cells) (now d) (now numbers) (i + 1) ⌝ }
+    requires { ⌜ Tabled s (now t) (recordBy (now numbers) (now d)) (now cells) (now table) i ⌝ }
+    requires { ⌜ length (rawText s (now t) (recordBy (now numbers) (now d)) (segmentAt (now cells) i)) < 2 ^ 57 ⌝ }
+    ensures { λ r. ⌜ r ≡ length (rawText s (now (t .entry)) (recordBy (now (numbers .entry)) (now (d .entry))) (segmentAt (now (cells .entry)) i)) ⌝ }
+{
+    let kind = kind_at(cells, i);
+    match kind {
+        Kind::Text => text_len(cells, t, i),
+        Kind::Group => members_len(cells, table, last_at(cells, i)),
+        Kind::Specifier(m) => field_len(d, numbers, m),
+    }
+}
+
+// The row of n bytes with nothing around them.
+fn bare_row(n: usize) -> Row
+    ensures { λ r. ⌜ r ≡ bareRow n ⌝ }
+{
+    Row {
+        padding: 0,
+        inserted: 0,
+        len: n,
+    }
+}
+
+// The bytes of a prefix of p bytes and of the reset at the end, which is there where a prefix is.
+fn ends_len(p: usize) -> usize
+    requires { ⌜ p ≤ 15 ⌝ }
+    ensures { λ r. ⌜ r ≡ cond (eqb p 0) 0 (p + 4) ⌝ }
+{
+    if p == 0 {
+        return 0;
+    }
+    p + 4
+}
+
 // The row of the segment at i, where those before it stand in the table.
 fn row_for(
     cells: &[usize],
@@ -118,27 +186,24 @@ fn row_for(
     ensures { λ r. ⌜ r ≡ rowOf s (now (t .entry)) (recordBy (now (numbers .entry)) (now (d .entry))) (segmentAt (now (cells .entry)) i) ⌝ }
 {
     if is_bare(cells, numbers, i) {
-        return Row {
-            padding: 0,
-            inserted: 0,
-        };
+        return bare_row(raw_len(cells, table, t, d, numbers, s, i));
     }
     let f = format_of(cells, numbers, i);
     let k = f.look;
+    let p = prefix_len(s, k);
     // nothing to pad and nothing to insert: its text needs no look
     if f.width == 0 {
-        if prefix_len(s, k) == 0 {
-            return Row {
-                padding: 0,
-                inserted: 0,
-            };
+        if p == 0 {
+            return bare_row(raw_len(cells, table, t, d, numbers, s, i));
         }
     }
     let x = raw_of(cells, table, t, d, numbers, s, i, none());
     let n = inserted_in(s, f, x);
+    let z = padding_in(s, f, x, n);
     Row {
-        padding: padding_in(s, f, x, n),
+        padding: z,
         inserted: n,
+        len: x.len + (n + (z + ends_len(p))),
     }
 }
 
@@ -153,14 +218,15 @@ pub(crate) fn rows(
     table: &mut [usize],
 )
     requires { ⌜ Readable (now cells) (now d) (now numbers) n ⌝ }
-    requires { ⌜ (2 * n ≤ length (now table)) × Countable s (now t) (recordBy (now numbers) (now d)) (now cells) n ⌝ }
+    requires { ⌜ (3 * n ≤ length (now table)) × Countable s (now t) (recordBy (now numbers) (now d)) (now cells) n ⌝ }
     ensures { λ _. ⌜ Tabled s (now (t .entry)) (recordBy (now (numbers .entry)) (now (d .entry))) (now (cells .entry)) (now (table .exit)) n ⌝ }
 {
     let mut i = 0;
     while i < n {
         let r = row_for(cells, table, t, d, numbers, s, i);
-        table[2 * i] = r.padding;
-        table[2 * i + 1] = r.inserted;
+        table[3 * i] = r.padding;
+        table[3 * i + 1] = r.inserted;
+        table[3 * i + 2] = r.len;
         i += 1;
     }
 }

@@ -86,12 +86,13 @@ pub(crate) fn format_of(cells: &[usize], numbers: &[usize], i: usize) -> Format
 }
 
 fn row_at(table: &[usize], i: usize) -> Row
-    requires { ⌜ 2 * i + 2 ≤ length (now table) ⌝ }
+    requires { ⌜ 3 * i + 3 ≤ length (now table) ⌝ }
     ensures { λ r. ⌜ r ≡ rowAt (now (table .entry)) i ⌝ }
 {
     Row {
-        padding: table[2 * i],
-        inserted: table[2 * i + 1],
+        padding: table[3 * i],
+        inserted: table[3 * i + 1],
+        len: table[3 * i + 2],
     }
 }
 
@@ -99,7 +100,7 @@ fn row_at(table: &[usize], i: usize) -> Row
 pub(crate) fn frame_at(cells: &[usize], table: &[usize], numbers: &[usize], i: usize) -> Frame
     requires { ⌜ (512 ≤ length (now cells)) × ((i < 64) × (12 ≤ length (now numbers))) ⌝ }
     requires { ⌜ isBare (sourceBy (now numbers)) (segmentAt (now cells) i) ≡ false ⌝ }
-    requires { ⌜ 2 * i + 2 ≤ length (now table) ⌝ }
+    requires { ⌜ 3 * i + 3 ≤ length (now table) ⌝ }
     ensures { λ r. ⌜ r ≡ frameBy (formatOf (levelBy (now (numbers .entry))) (segmentAt (now (cells .entry)) i)) (rowAt (now (table .entry)) i) ⌝ }
 {
     let format = format_of(cells, numbers, i);

@@ -1,17 +1,16 @@
 // Writing a line's segments, with the padding and the insertions that the table tells.
 use super::leaves::put_field;
 use super::leaves::put_text;
-use super::measuring::join_of;
+use super::measuring::members_len;
 use super::measuring::rows;
+use super::members::member_after;
 use super::segment::frame_at;
 use super::segment::is_bare;
 use colour::Settings;
 use dress::in_place::dress;
-use measure::growing::none;
 use measure::padding::pad_byte;
 use measure::prefix::prefix_len;
 use segments::Kind;
-use segments::pool::back_at;
 use segments::pool::kind_at;
 use segments::pool::last_at;
 use text::buffer::fill;
@@ -38,11 +37,11 @@ pub fn write_line(
     requires { ⌜ Writable (now cells) (now t) (now d) (now numbers) n ⌝ }
     ensures { λ r. ⌜ (r ≡ length (segmentsText s (now (t .entry)) (recordBy (now (numbers .entry)) (now (d .entry))) (chainAt (now (cells .entry)) n))) × (now (out .exit) ≡ written (now (out .entry)) (segmentsText s (now (t .entry)) (recordBy (now (numbers .entry)) (now (d .entry))) (chainAt (now (cells .entry)) n))) ⌝ }
 {
-    let mut table: [usize; 128] = [0; 128];
+    let mut table: [usize; 192] = [0; 192];
     rows(cells, t, d, numbers, s, n, &mut table);
-    let x = join_of(cells, &table, t, d, numbers, s, n, none());
-    if out.len() < x.len {
-        return x.len;
+    let x = members_len(cells, &table, n);
+    if out.len() < x {
+        return x;
     }
     put_join(cells, &table, t, d, numbers, s, n, out, 0)
 }
@@ -72,7 +71,7 @@ fn put_raw(
     }
 }
 
-// Writes the members back from the link `l`.
+// Writes the members back from the link `l`, in a loop as they were measured.
 fn put_join(
     cells: &[usize],
     table: &[usize],
@@ -89,12 +88,13 @@ fn put_join(
     requires { ⌜ at + length (segmentsText s (now t) (recordBy (now numbers) (now d)) (chainAt (now cells) l)) ≤ length (now out) ⌝ }
     ensures { λ r. ⌜ (r ≡ at + length (segmentsText s (now (t .entry)) (recordBy (now (numbers .entry)) (now (d .entry))) (chainAt (now (cells .entry)) l))) × (now (out .exit) ≡ putAt (now (out .entry)) at (segmentsText s (now (t .entry)) (recordBy (now (numbers .entry)) (now (d .entry))) (chainAt (now (cells .entry)) l))) ⌝ }
 {
-    if l == 0 {
-        return at;
+    let mut b = at;
+    let mut j = 0;
+    while j < l {
+        j = member_after(cells, l, j);
+        b = put_seg(cells, table, t, d, numbers, s, j - 1, out, b);
     }
-    let i = l - 1;
-    let b = put_join(cells, table, t, d, numbers, s, back_at(cells, i), out, at);
-    put_seg(cells, table, t, d, numbers, s, i, out, b)
+    b
 }
 
 // Writes the segment at i, formatted: with a prefix its text is written first, where it must end, and then dressed in place.

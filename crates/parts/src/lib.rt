@@ -19,8 +19,8 @@ pub enum Named {
 
 // What a list of words has given so far; `twice` once anything was given a second time.
 pub struct Parts {
-    pub metadata: Named,
     pub format: LogFormat,
+    pub metadata: Named,
     pub twice: bool,
 }
 

@@ -1,5 +1,5 @@
 -- The numbers of a format: what is stored is read back. Assumes nothing.
-use Prim.Native.Nat.{ℕ, zero, suc, _+_, _*_, _-_, _/_, _%_, _≤_}
+use Prim.Native.Nat.{ℕ, zero, suc, _+_, _*_, _-_, _/_, _%_, _≤_, _<_}
 use mathlib.Core.Path.{_≡_, refl, sym, ap, _∙_}
 use mathlib.Core.Bool.{Bool, true, false}
 use mathlib.Core.List.{List, [], _∷_}
@@ -9,8 +9,7 @@ use borrow.Author.Tests.{eq-eqb, ne-eqb}
 use Rattle.words.specs.declared.Styles.{Styles}
 use Rattle.words.specs.declared.Width.{Width}
 use Rattle.segments.specs.Pool.{entry, bit, stylesOf, widthOf}
-use Rattle.segments.specs.Sizes.{Narrow}
-use Rattle.segments.specs.Storing.{Storable, flagOf}
+use Rattle.segments.specs.Storing.{flagOf}
 
 pub entry-past : {A : Type 0} (other : A) (l : List A) (n : ℕ) → length l ≤ n → entry other l n ≡ other
 unfolding entry
@@ -21,17 +20,20 @@ entry-past other (a ∷ rest) (suc n) h = entry-past other rest n (omega arith)
 pub above : (k n : ℕ) → k ≤ n → (n ≡ k → ⊥) → suc k ≤ n
 above k n h g = omega arith
 
--- a width of 512 at most can be stored
-pub narrow-storable : (w : Width) → Narrow w → Storable w
-narrow-storable Width.Default h = tt
-narrow-storable (Width.Given n) h = omega arith
+-- a count that is a byte is read back
+pub count-back : (n : ℕ) → n < 256 → n % 256 ≡ n
+count-back n h = omega arith
 
-pub width-more : (n : ℕ) → widthOf (n + 1) ≡ Width.Given n
+width-cut : (n : ℕ) → widthOf (n + 1) ≡ Width.Given (n % 65536)
 unfolding widthOf
-width-more n = ap widthOf (let e : n + 1 ≡ suc n = omega arith in e)
+width-cut n = ap widthOf (let e : n + 1 ≡ suc n = omega arith in e)
 
-pub width-less : (n : ℕ) → (n ≡ 0 → ⊥) → Width.Given (n - 1) ≡ widthOf n
-width-less n h = sym (ap widthOf (let e : n ≡ n - 1 + 1 = omega arith in e) ∙ width-more (n - 1))
+-- a width of two bytes is read back
+pub width-more : (n : ℕ) → n < 65536 → widthOf (n + 1) ≡ Width.Given n
+width-more n h = width-cut n ∙ ap Width.Given (let e : n % 65536 ≡ n = omega arith in e)
+
+pub width-less : (n : ℕ) → (n ≡ 0 → ⊥) → Width.Given ((n - 1) % 65536) ≡ widthOf n
+width-less n h = sym (ap widthOf (let e : n ≡ n - 1 + 1 = omega arith in e) ∙ width-cut (n - 1))
 
 bit-flag : (b : Bool) (n m : ℕ) → n ≡ flagOf b + 2 * m → bit n ≡ b
 unfolding bit

@@ -31,7 +31,8 @@ entry other [] n = other
 entry other (a ∷ rest) zero = a
 entry other (a ∷ rest) (suc n) = entry other rest n
 
--- number 0: what the segment is; numbers 1 and 2 are the places of a text, the link to a group's last member, the count of `f`
+-- number 0: what the segment is; numbers 1 and 2 are the places of a text, the link to a group's last member, the count of `f`.
+-- The code keeps a count in a byte, and a template has none above 255: of a larger number the low byte counts, so that each number stands for something
 abbrev pub kinds : ℕ → List Kind
 kinds n =
     Kind.Text
@@ -43,7 +44,7 @@ kinds n =
     ∷ Kind.Specifier LogLevel
     ∷ Kind.Specifier ModulePath
     ∷ Kind.Specifier Timestamp
-    ∷ Kind.Specifier (FileName n)
+    ∷ Kind.Specifier (FileName (n % 256))
     ∷ []
 
 unfoldable pub kindAt : List ℕ → ℕ → Kind
@@ -77,10 +78,10 @@ bit n = eqb (n % 2) 1
 unfoldable pub stylesOf : ℕ → Styles
 stylesOf n = record { bold = bit n; dimmed = bit (n / 2); underline = bit (n / 4); italic = bit (n / 8); strike = bit (n / 16) }
 
--- number 6: one more than the width, or 0 for none
+-- number 6: one more than the width, or 0 for none. The code keeps a width in two bytes: of a larger one the low two count
 unfoldable pub widthOf : ℕ → Width
 widthOf zero = Width.Default
-widthOf (suc n) = Width.Given n
+widthOf (suc n) = Width.Given (n % 65536)
 
 -- number 7: the alignment and three times the padding
 unfoldable pub alignmentOf : ℕ → Alignment

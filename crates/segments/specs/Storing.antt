@@ -1,17 +1,11 @@
 -- What storing the parts of a segment leaves in the pool. Assumes nothing.
-use Prim.Native.Nat.{ℕ, _+_, _*_, _<_, _^_}
+use Prim.Native.Nat.{ℕ, _+_, _*_}
 use mathlib.Core.Path.{_≡_}
 use mathlib.Core.Bool.{Bool, true, false}
 use mathlib.Core.List.{List}
 use lib.ListN.{take}
-use Rattle.words.specs.declared.Width.{Width}
 use Rattle.words.specs.declared.LogFormat.{LogFormat}
 use Rattle.segments.specs.Pool.{cell, formatAt}
-
--- one more than the width is a number that can be stored
-abbrev pub Storable : Width → Type 0
-Storable Width.Default = Unit {0}
-Storable (Width.Given n) = n < 2 ^ 32
 
 abbrev pub flagOf : Bool → ℕ
 flagOf true = 1

@@ -10,7 +10,7 @@ ghost use mathlib.Core.Path.{_≡_};
 ghost use Prim.Native.Nat.{_≤_};
 ghost use Rattle.segments.specs.declared.Kind.{Kind};
 ghost use Rattle.segments.specs.Pool.{entry, kinds, colourOf, stylesOf, widthOf, alignmentOf, paddingOf};
-ghost use Rattle.segments.specs.Storing.{Storable, flagOf};
+ghost use Rattle.segments.specs.Storing.{flagOf};
 
 // A specifier's number, and the count that only `f` has.
 pub struct Coded {
@@ -28,7 +28,7 @@ pub fn metadata_number(m: LogMetadata) -> Coded
         },
         LogMetadata::FileName(n) => Coded {
             number: 9,
-            count: n,
+            count: n as usize,
         },
         LogMetadata::FilePath => Coded {
             number: 3,
@@ -100,12 +100,11 @@ fn flag(b: bool) -> usize
 }
 
 pub fn width_number(w: Width) -> usize
-    requires { ⌜ Storable w ⌝ }
     ensures { λ r. ⌜ widthOf r ≡ w ⌝ }
 {
     match w {
         Width::Default => 0,
-        Width::Given(n) => n + 1,
+        Width::Given(n) => n as usize + 1,
     }
 }
 

@@ -23,7 +23,7 @@ pub fn kind_of(number: usize, count: usize) -> Kind
         6 => Kind::Specifier(LogMetadata::LogLevel),
         7 => Kind::Specifier(LogMetadata::ModulePath),
         8 => Kind::Specifier(LogMetadata::Timestamp),
-        9 => Kind::Specifier(LogMetadata::FileName(count)),
+        9 => Kind::Specifier(LogMetadata::FileName((count % 256) as u8)),
         10.. => Kind::Text,
     }
 }
@@ -73,7 +73,7 @@ pub fn width_of(number: usize) -> Width
     if number == 0 {
         Width::Default
     } else {
-        Width::Given(number - 1)
+        Width::Given(((number - 1) % 65536) as u16)
     }
 }
 

@@ -9,7 +9,7 @@ ghost use Prim.Native.Nat.{_+_, _*_, _<_, _≤_};
 ghost use lib.ListN.{length};
 ghost use Rattle.segments.specs.Segments.{text, specifier, group};
 ghost use Rattle.segments.specs.Pool.{cell, kindAt, formatAt, linkBelow, back, lastOf, chainAt, Adds};
-ghost use Rattle.segments.specs.Storing.{Storable, Begun, Dressed};
+ghost use Rattle.segments.specs.Storing.{Begun, Dressed};
 
 // Adds a text, which is a place in the template.
 pub fn put_text(cells: &mut [usize], n: usize, link: usize, from: usize, to: usize)
@@ -20,7 +20,7 @@ pub fn put_text(cells: &mut [usize], n: usize, link: usize, from: usize, to: usi
 }
 
 pub fn put_specifier(cells: &mut [usize], n: usize, link: usize, m: LogMetadata, f: LogFormat)
-    requires { ⌜ ((512 ≤ length (now cells)) × ((n < 64) × (link ≤ n))) × Storable (f .width) ⌝ }
+    requires { ⌜ (512 ≤ length (now cells)) × ((n < 64) × (link ≤ n)) ⌝ }
     ensures { λ _. ⌜ Adds (now (cells .entry)) (now (cells .exit)) n link (specifier m f) ⌝ }
 {
     let c = coding::metadata_number(m);
@@ -30,7 +30,7 @@ pub fn put_specifier(cells: &mut [usize], n: usize, link: usize, m: LogMetadata,
 
 // Adds a group, whose members are those back from `last`.
 pub fn put_group(cells: &mut [usize], n: usize, link: usize, last: usize, f: LogFormat)
-    requires { ⌜ ((512 ≤ length (now cells)) × ((n < 64) × ((link ≤ n) × (last ≤ n)))) × Storable (f .width) ⌝ }
+    requires { ⌜ (512 ≤ length (now cells)) × ((n < 64) × ((link ≤ n) × (last ≤ n))) ⌝ }
     ensures { λ _. ⌜ Adds (now (cells .entry)) (now (cells .exit)) n link (group (chainAt (now (cells .entry)) last) f) ⌝ }
 {
     begin(cells, n, link, 1, last, 0);
@@ -49,7 +49,7 @@ fn begin(cells: &mut [usize], n: usize, link: usize, number: usize, a: usize, b:
 }
 
 fn dress(cells: &mut [usize], n: usize, f: LogFormat)
-    requires { ⌜ ((512 ≤ length (now cells)) × (n < 64)) × Storable (f .width) ⌝ }
+    requires { ⌜ (512 ≤ length (now cells)) × (n < 64) ⌝ }
     ensures { λ _. ⌜ Dressed (now (cells .entry)) (now (cells .exit)) n f ⌝ }
 {
     let width = f.width;

@@ -4,17 +4,14 @@ use mathlib.Core.Bool.{Bool, true, false}
 use mathlib.Core.List.{List, [], _++_}
 use Prim.Native.Nat.{ℕ, zero, suc, _+_, _*_, _-_, _≤_, _<_}
 use native.Mathlib.Omega.{arith}
-use lib.Dec.{leb}
 use lib.ListN.{length, getD, length-append}
 use Rattle.text.specs.Buffer.{putAt}
 use Rattle.text.proofs.Writing.{put-put}
-use borrow.Author.Tests.{leb-true}
 use Rattle.text.specs.Bytes.{part}
 use Rattle.text.specs.Table.{some}
-use Rattle.text.specs.Utf8.{valid}
 use Rattle.refusals.specs.declared.Refusal.{Refusal}
 use Rattle.segments.specs.Segments.{LogSegments}
-use Rattle.template.specs.Template.{Template, read, refusal, topLevel, readTemplate}
+use Rattle.template.specs.Template.{read, refusal, readTemplate}
 use Rattle.record.specs.Layout.{u32, rightSize, laidOut}
 use Rattle.sheet.specs.Sheets.{Sheet, bodyCount, contentsEnd, bodiesFrom, isSheet, sheetOf, allLaidOut}
 use Rattle.sheet.proofs.Standing.{stands, contents-end, sheet-some, sheet-none}
@@ -27,20 +24,9 @@ use Rattle.segments.specs.Pool.{chainAt}
 use Rattle.session.specs.declared.Opened.{Opened}
 use Rattle.answer.specs.Answers.{recordOutcome, settingsOf}
 use Rattle.session.proofs.Answered.{outcome-most}
+use Rattle.answer.proofs.Answering.{read-short}
 use Rattle.session.specs.Program.{lineRoom, outcomeLine, recordLines, sheetLines, maybeSheetLines, refusalLine, output}
 use Rattle.session.specs.Walking.{openedBy, opening, tellOpened, OpenedKeeps, templateIn, recordsFrom, Ready, Lies, Standing, outcomeAt, lineAt, linesFrom, allLines}
-
--- ---- the template
-
-by-length : (b : Bool) (x : Template) (s : LogSegments) → elim b [ true ↦ x | false ↦ refusal Refusal.TemplateTooLong ] ≡ read s → b ≡ true
-by-length true x s e = refl
-by-length false x s e = let z : _≡_ {A = ℕ} 0 1 = cc in absurd (omega (arith, z))
-
--- what was read is short
-pub read-short : (t : List ℕ) (s : LogSegments) → readTemplate t ≡ read s → length t ≤ 1024
-unfolding readTemplate
-read-short t s e =
-    leb-true (length t) 1024 (by-length (leb (length t) 1024) (elim (valid t) [ true ↦ topLevel t | false ↦ refusal Refusal.TemplateNotUtf8 ]) s e)
 
 -- ---- a sheet that is one
 

@@ -1,35 +1,12 @@
 // The line that stands for a refusal.
+use answer::packing::number_of;
 use refusals::Refusal;
 use text::buffer::put;
 ghost use mathlib.Core.Path.{_≡_};
 ghost use Prim.Native.Nat.{_+_, _≤_, _<_};
 ghost use lib.ListN.{length};
 ghost use Rattle.text.specs.Buffer.{putAt};
-ghost use Rattle.refusals.specs.Numbers.{number};
 ghost use Rattle.session.specs.Program.{refusalLine};
-
-// The refusal's number.
-pub fn number_of(r: Refusal) -> u8
-    ensures { λ n. ⌜ (n ≡ number r) × (n ≤ 15) ⌝ }
-{
-    match r {
-        Refusal::TemplateTooLong => 1,
-        Refusal::TemplateNotUtf8 => 2,
-        Refusal::Failure => 3,
-        Refusal::NoMessage => 4,
-        Refusal::TooManySegments => 5,
-        Refusal::TooDeep => 6,
-        Refusal::TooWide => 7,
-        Refusal::TooManyF => 8,
-        Refusal::HalfEscape => 9,
-        Refusal::NameTouchesLetter => 10,
-        Refusal::FieldTooLong => 11,
-        Refusal::FieldNotUtf8 => 12,
-        Refusal::LineTooLong(_) => 13,
-        Refusal::NotARecord => 14,
-        Refusal::NotASheet => 15,
-    }
-}
 
 // The length of the refusal's line.
 pub fn refusal_length(r: Refusal) -> usize

@@ -17,7 +17,7 @@ use Rattle.template.specs.Told.{tellParts, lastMade, tell, tellItems, te
 -- the code's answer is o, and it tells x
 
 module _ (o : PartsRead) (x : Tried Parts) (w : tellParts o ≡ x) where
-  pub parts-fit : (p : Parts) (j : ℕ) → o ≡ PartsRead.Fit p j → x ≡ fit p j
+  pub parts-fit : (p : Parts) (j : ℕ) → o ≡ PartsRead.Fit j p → x ≡ fit p j
   unfolding tellParts
   parts-fit p j q = sym w ∙ ap tellParts q
 
@@ -43,7 +43,7 @@ module _ (o : Reading) (cells : List ℕ) (x : Tried Made) (w : tell o cells ≡
   reading-refused r q = sym w ∙ ap (λ (r : Reading). tell r cells) q
 
 module _ (o : ItemRead) (cells : List ℕ) (x : Tried Content) (w : tellItem o cells ≡ x) where
-  pub item-fit : (c : Items) (j : ℕ) → o ≡ ItemRead.Fit c j → x ≡ fit (tellItems c cells) j
+  pub item-fit : (c : Items) (j : ℕ) → o ≡ ItemRead.Fit j c → x ≡ fit (tellItems c cells) j
   unfolding tellItem
   item-fit c j q = sym w ∙ ap (λ (r : ItemRead). tellItem r cells) q
 
@@ -56,7 +56,7 @@ module _ (o : ItemRead) (cells : List ℕ) (x : Tried Content) (w : tellItem o c
   item-refused r q = sym w ∙ ap (λ (r : ItemRead). tellItem r cells) q
 
 module _ (o : PieceRead) (cells : List ℕ) (x : Tried Group) (w : tellPiece o cells ≡ x) where
-  pub piece-fit : (g : Pieces) (j : ℕ) → o ≡ PieceRead.Fit g j → x ≡ fit (tellPieces g cells) j
+  pub piece-fit : (g : Pieces) (j : ℕ) → o ≡ PieceRead.Fit j g → x ≡ fit (tellPieces g cells) j
   unfolding tellPiece
   piece-fit g j q = sym w ∙ ap (λ (r : PieceRead). tellPiece r cells) q
 

@@ -22,12 +22,12 @@ use Rattle.template.specs.Told.{Room, PartsWithin, Fitted, Within, Keeps
 
 -- ---- words
 
-pub words-fit : (lo to : ℕ) (o : PartsRead) (p : Parts) (j : ℕ) → o ≡ PartsRead.Fit p j → PartsWithin lo to o
+pub words-fit : (lo to : ℕ) (o : PartsRead) (p : Parts) (j : ℕ) → o ≡ PartsRead.Fit j p → PartsWithin lo to o
     → (lo ≤ j) × ((j ≤ to) × Narrow (p .format .width))
 unfolding PartsWithin
 words-fit lo to o p j q w = rw q at w
 
-pub fit-words : (lo to : ℕ) (p : Parts) (j : ℕ) → lo ≤ j → j ≤ to → Narrow (p .format .width) → PartsWithin lo to (PartsRead.Fit p j)
+pub fit-words : (lo to : ℕ) (p : Parts) (j : ℕ) → lo ≤ j → j ≤ to → Narrow (p .format .width) → PartsWithin lo to (PartsRead.Fit j p)
 unfolding PartsWithin
 fit-words lo to p j h g n = (h, (g, n))
 
@@ -41,7 +41,7 @@ refused-words lo to r = tt
 
 pub words-wider : (lo lo′ to : ℕ) (o : PartsRead) → PartsWithin lo to o → lo′ ≤ lo → PartsWithin lo′ to o
 unfolding PartsWithin
-words-wider lo lo′ to (PartsRead.Fit p j) w h = (le-trans h (w .0), w .1)
+words-wider lo lo′ to (PartsRead.Fit j p) w h = (le-trans h (w .0), w .1)
 words-wider lo lo′ to PartsRead.Misfit w h = tt
 words-wider lo lo′ to (PartsRead.Refused r) w h = tt
 
@@ -127,12 +127,12 @@ module _ (b a : List ℕ) (n link : ℕ) (x : LogSegment) (h : Adds b a n link x
 
 -- ---- items and pieces
 
-pub items-fit : (lo to n link d : ℕ) (a : List ℕ) (o : ItemRead) (c : Items) (j : ℕ) → o ≡ ItemRead.Fit c j → ItemWithin lo to n link d a o
+pub items-fit : (lo to n link d : ℕ) (a : List ℕ) (o : ItemRead) (c : Items) (j : ℕ) → o ≡ ItemRead.Fit j c → ItemWithin lo to n link d a o
     → (lo ≤ j) × ((j ≤ to) × ItemsKeep n link d a c)
 unfolding ItemWithin
 items-fit lo to n link d a o c j q w = subst (λ (r : ItemRead). ItemWithin lo to n link d a r) q w
 
-pub fit-items : (lo to n link d : ℕ) (a : List ℕ) (c : Items) (j : ℕ) → lo ≤ j → j ≤ to → ItemsKeep n link d a c → ItemWithin lo to n link d a (ItemRead.Fit c j)
+pub fit-items : (lo to n link d : ℕ) (a : List ℕ) (c : Items) (j : ℕ) → lo ≤ j → j ≤ to → ItemsKeep n link d a c → ItemWithin lo to n link d a (ItemRead.Fit j c)
 unfolding ItemWithin
 fit-items lo to n link d a c j h g w = (h, (g, w))
 
@@ -144,12 +144,12 @@ pub refused-items : (lo to n link d : ℕ) (a : List ℕ) (r : Refusal) → Item
 unfolding ItemWithin
 refused-items lo to n link d a r = tt
 
-pub pieces-fit : (lo to n d : ℕ) (a : List ℕ) (o : PieceRead) (g : Pieces) (j : ℕ) → o ≡ PieceRead.Fit g j → PieceWithin lo to n d a o
+pub pieces-fit : (lo to n d : ℕ) (a : List ℕ) (o : PieceRead) (g : Pieces) (j : ℕ) → o ≡ PieceRead.Fit j g → PieceWithin lo to n d a o
     → (lo ≤ j) × ((j ≤ to) × PiecesKeep n d a g)
 unfolding PieceWithin
 pieces-fit lo to n d a o g j q w = subst (λ (r : PieceRead). PieceWithin lo to n d a r) q w
 
-pub fit-pieces : (lo to n d : ℕ) (a : List ℕ) (g : Pieces) (j : ℕ) → lo ≤ j → j ≤ to → PiecesKeep n d a g → PieceWithin lo to n d a (PieceRead.Fit g j)
+pub fit-pieces : (lo to n d : ℕ) (a : List ℕ) (g : Pieces) (j : ℕ) → lo ≤ j → j ≤ to → PiecesKeep n d a g → PieceWithin lo to n d a (PieceRead.Fit j g)
 unfolding PieceWithin
 fit-pieces lo to n d a g j h u w = (h, (u, w))
 

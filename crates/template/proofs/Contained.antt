@@ -4,6 +4,7 @@ use mathlib.Core.Path.{_≡_, refl, sym, ap, subst, _∙_}
 use mathlib.Core.Bool.{Bool, true, false, not}
 use mathlib.Core.List.{List}
 use native.Mathlib.Omega.{arith}
+use lib.ListN.{length}
 use Rattle.refusals.specs.declared.Refusal.{Refusal}
 use Rattle.words.specs.Runs.{stands}
 use Rattle.words.specs.Trying.{Tried, fit, misfit, refused, _or-else_, _then_, further, listed}
@@ -19,8 +20,9 @@ use Rattle.template.specs.declared.Items.{Items}
 use Rattle.template.specs.declared.ItemRead.{ItemRead}
 use Rattle.template.specs.Braces.{closing}
 use Rattle.template.specs.Reading.{Made, Reader, Taken, nothing, Content, noContent, itemAt, separator, contentAt, groupAt, braceTo, braceAt, insideAt}
-use Rattle.template.specs.Told.{lastMade, tell, tellInner, tellItems, tellItem, builtOf, Room, InnerKeeps, InnerMade, ItemsKeep}
+use Rattle.template.specs.Told.{lastMade, tell, tellInner, tellItems, tellItem, builtOf, Room, Keeps, InnerKeeps, InnerMade, ItemsKeep}
 use Rattle.template.proofs.Answers.{reading-fit, reading-misfit, reading-refused, item-fit, item-misfit, item-refused}
+use Rattle.template.proofs.Bounds.{keeps-misfit}
 
 -- ---- braces
 
@@ -58,6 +60,24 @@ module _ (t : List ℕ) (inside : Reader) (i e n : ℕ) (cells : List ℕ) where
       brace-refuses k s =
           sym (brace-is (Closing.At c) r ∙ then-refused (inside (i + 1) c n) (λ (x : Made) (j : ℕ). fit x (c + 1)) k (reading-refused o cells (inside (i + 1) c n) w k s))
 
+-- ---- a brace that is read only where one stands
+
+-- what is known after the look, whether one was read or none stood
+pub record Looked (t : List ℕ) (inside : Reader) (i e n link d : ℕ) (b a : List ℕ) (o : Reading) : Type 0 where
+  pub told : tell o a ≡ braceAt t inside i e n
+  pub keeps : Keeps (i + 1) e n link d b a o
+  pub long : length a ≡ length b
+
+module _ (t : List ℕ) (inside : Reader) (i e n link d : ℕ) (b a : List ℕ) (o : Reading) where
+  pub brace-read : (z : List ℕ) (r : Reading) → a ≡ z → o ≡ r → tell r z ≡ braceAt t inside i e n → Keeps (i + 1) e n link d b z r → length z ≡ length b
+      → Looked t inside i e n link d b a o
+  brace-read z r p q w k l =
+      subst (λ (y : List ℕ). Looked t inside i e n link d b y o) (sym p)
+      (subst (Looked t inside i e n link d b z) (sym q) (record { told = w; keeps = k; long = l }))
+
+  pub no-brace : a ≡ b → o ≡ Reading.Misfit → stands 0x7B t i e ≡ false → Looked t inside i e n link d b a o
+  no-brace p q s = brace-read b Reading.Misfit p q (brace-none t inside i e n b s) (keeps-misfit (i + 1) e n link d b b refl) refl
+
 -- ---- contents
 
 pub too-deep : (left : ℕ) (even : Bool) (t : List ℕ) (i e n : ℕ) (cells : List ℕ) → left ≡ 0 → tell (Reading.Refused Refusal.TooDeep) cells ≡ insideAt left even t i e n
@@ -94,7 +114,7 @@ module _ (left : ℕ) (even : Bool) (t : List ℕ) (i e n : ℕ) (h : left ≡ 0
   from-list =
       ap (λ (z : Content). listed (separator even) t e (itemAt even t group e) i z then builtOf) b ∙ sym (deeper left even t i e n h)
 
-  pub content-on : (c : Items) (j : ℕ) → o ≡ ItemRead.Fit c j → i ≤ j → (x : Tried Made)
+  pub content-on : (c : Items) (j : ℕ) → o ≡ ItemRead.Fit j c → i ≤ j → (x : Tried Made)
       → ((m : ℕ) → e - j ≤ m → x ≡ (further (separator even) t e (itemAt even t (groupAt t (braceAt t (insideAt (left - 1) (not even) t))) e) m j (tellItems c a) then builtOf))
       → x ≡ insideAt left even t i e n
   content-on c j q g x f =

@@ -114,8 +114,8 @@ module _ (t : List ℕ) (i e : ℕ) (g : Pieces) (cells : List ℕ) where
         ∙ asked (parameterAt t (i + 1) e) (tellPieces g cells) (g .parts) refl
         ∙ ap (λ (x : Tried Parts). (x then λ q j. fit (record { members = chainAt cells (g .last); parts = q; made = g .made }) j) or-else λ _. refused Refusal.Failure) (sym w)
 
-    pub percent-fit : (q : Parts) (j : ℕ) → o ≡ PartsRead.Fit q j
-        → tellPiece (PieceRead.Fit (record { parts = q; last = g .last; direct = g .direct; made = g .made }) j) cells ≡ (percentAt t i e then λ a j. fit (withAsked (tellPieces g cells) a) j)
+    pub percent-fit : (q : Parts) (j : ℕ) → o ≡ PartsRead.Fit j q
+        → tellPiece (PieceRead.Fit j (record { parts = q; last = g .last; direct = g .direct; made = g .made })) cells ≡ (percentAt t i e then λ a j. fit (withAsked (tellPieces g cells) a) j)
     unfolding tellPiece tellPieces tellParts _then_ _or-else_
     percent-fit q j r = sym (percent-is ∙ ap (λ (z : PartsRead). (tellParts z then λ q j. fit (record { members = chainAt cells (g .last); parts = q; made = g .made }) j) or-else λ _. refused Refusal.Failure) r)
 
@@ -147,7 +147,7 @@ module _ (t : List ℕ) (i e : ℕ) (g : Pieces) (b a : List ℕ) (o : Reading) 
   asking = λ _. percentAt t i e then λ a j. fit (withAsked (tellPieces g b) a) j
 
   pub plain-text : (j k : ℕ) → o ≡ Reading.Fit j k → (s : Pieces) → tellPieces s a ≡ withMember (tellPieces g b) (lastMade a k)
-      → tellPiece (PieceRead.Fit s j) a ≡ plainPiece t e i (tellPieces g b)
+      → tellPiece (PieceRead.Fit j s) a ≡ plainPiece t e i (tellPieces g b)
   unfolding tellPiece plainPiece tellPieces
   plain-text j k q s r =
       ap (λ (z : Group). fit z j) r
@@ -184,7 +184,7 @@ module _ (t : List ℕ) (brace : Reader) (i e : ℕ) (g : Pieces) (b a : List �
   piece-is = refl
 
   pub piece-brace : (j k : ℕ) → o ≡ Reading.Fit j k → (s : Pieces) → tellPieces s a ≡ withMember (tellPieces g b) (lastMade a k)
-      → tellPiece (PieceRead.Fit s j) a ≡ pieceAt t brace e i (tellPieces g b)
+      → tellPiece (PieceRead.Fit j s) a ≡ pieceAt t brace e i (tellPieces g b)
   unfolding tellPiece
   piece-brace j k q s r =
       ap (λ (z : Group). fit z j) r

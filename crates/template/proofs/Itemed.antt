@@ -100,14 +100,14 @@ next-kept lo to n link d b a c j k h g w q = subst (ItemsKeep n link d a) (sym q
 
 words-item : (c : Items) (o : PartsRead) (cells : List ℕ) → tellItem (itemOf c o) cells ≡ (tellParts o then λ p j. fit (withWords (tellItems c cells) p) j)
 unfolding itemOf tellItem tellItems tellParts withWords _then_
-words-item c (PartsRead.Fit p j) cells = refl
+words-item c (PartsRead.Fit j p) cells = refl
 words-item c PartsRead.Misfit cells = refl
 words-item c (PartsRead.Refused r) cells = refl
 
 pub words-kept : (lo to n link d : ℕ) (cells : List ℕ) (c : Items) (o : PartsRead) → PartsWithin lo to o → ItemsKeep n link d cells c → (r : ItemRead) → r ≡ itemOf c o
     → ItemWithin lo to n link d cells r
 unfolding itemOf PartsWithin ItemWithin
-words-kept lo to n link d cells c (PartsRead.Fit p j) w h r q = subst (ItemWithin lo to n link d cells) (sym q) (
+words-kept lo to n link d cells c (PartsRead.Fit j p) w h r q = subst (ItemWithin lo to n link d cells) (sym q) (
   w .0,
   (
     w .1 .0,
@@ -144,7 +144,7 @@ module _ (t : List ℕ) (i e : ℕ) (c : Items) (b a : List ℕ) (o : Reading) (
   abbrev taken : Made → ℕ → Tried Content
   taken x j = fit (withSegment (tellItems c b) x) j
 
-  pub even-segment : (j k : ℕ) → o ≡ Reading.Fit j k → (s : Items) → s ≡ withLast c k → tellItem (ItemRead.Fit s j) a ≡ plainItem true t e i (tellItems c b)
+  pub even-segment : (j k : ℕ) → o ≡ Reading.Fit j k → (s : Items) → s ≡ withLast c k → tellItem (ItemRead.Fit j s) a ≡ plainItem true t e i (tellItems c b)
   unfolding tellItem plainItem tellItems _or-else_ _then_
   even-segment j k q s r =
       ap (λ (z : Items). fit (tellItems z a) j) r ∙ ap (λ (z : Content). fit z j) (next-told b a c k)
@@ -182,7 +182,7 @@ item-is true t group e i c =
 item-is false t group e i c = refl
 
 module _ (even : Bool) (t : List ℕ) (group : Reader) (e i : ℕ) (c : Items) (b a : List ℕ) (o : ItemRead) (w : tellItem o a ≡ plainItem even t e i (tellItems c b)) where
-  pub item-plain : (s : Items) (j : ℕ) → o ≡ ItemRead.Fit s j → tellItem (ItemRead.Fit s j) a ≡ itemAt even t group e i (tellItems c b)
+  pub item-plain : (s : Items) (j : ℕ) → o ≡ ItemRead.Fit j s → tellItem (ItemRead.Fit j s) a ≡ itemAt even t group e i (tellItems c b)
   unfolding tellItem
   item-plain s j q =
       sym (item-is even t group e i (tellItems c b)
@@ -201,7 +201,7 @@ module _ (even : Bool) (t : List ℕ) (group : Reader) (e i : ℕ) (c : Items) (
         item-is even t group e i (tellItems c b)
         ∙ or-else-misfit (plainItem even t e i (tellItems c b)) (grouped group e i (tellItems c b)) (item-misfit o a (plainItem even t e i (tellItems c b)) w q)
 
-    pub item-group : (j k : ℕ) → g ≡ Reading.Fit j k → (s : Items) → s ≡ withLast c k → tellItem (ItemRead.Fit s j) z ≡ itemAt even t group e i (tellItems c b)
+    pub item-group : (j k : ℕ) → g ≡ Reading.Fit j k → (s : Items) → s ≡ withLast c k → tellItem (ItemRead.Fit j s) z ≡ itemAt even t group e i (tellItems c b)
     unfolding tellItem
     item-group j k r s u =
         ap (λ (y : Items). fit (tellItems y z) j) u ∙ ap (λ (y : Content). fit y j) (next-told b z c k)

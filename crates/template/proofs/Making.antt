@@ -15,8 +15,6 @@ use Rattle.words.specs.Trying.{Tried, fit, misfit, refused}
 use Rattle.segments.specs.Segments.{LogSegment, LogSegments, text, specifier, group, isSpecifier, anySpecifier}
 use Rattle.segments.specs.Sizes.{size, sizes, Low, Lows, Narrow}
 use Rattle.segments.specs.Pool.{segmentAt, chainAt, Adds}
-use Rattle.segments.specs.Storing.{Storable}
-use Rattle.words.specs.declared.Width.{Width}
 use Rattle.parts.specs.declared.Named.{Named}
 use Rattle.parts.specs.declared.Parts.{Parts}
 use Rattle.parts.specs.Parts.{hasSpecifier, specified, segmentOf}
@@ -40,11 +38,6 @@ module _ (b a : List ℕ) (n link : ℕ) (x : LogSegment) (j : ℕ) where
 pub full-told : (a : List ℕ) (n : ℕ) (x : LogSegment) (j : ℕ) → 64 ≤ n → tell (Reading.Refused Refusal.TooManySegments) a ≡ make x n j
 unfolding tell make
 full-told a n x j h = sym (rw (le-ltb n 64 h, make))
-
--- a width that is narrow can be stored
-pub storable : (w : Width) → Narrow w → Storable w
-storable Width.Default h = tt
-storable (Width.Given n) h = omega arith
 
 -- ---- a text: j is where its run ends
 

@@ -27,8 +27,8 @@ use Rattle.template.proofs.Answers.{parts-fit, parts-misfit, parts-refu
 -- ---- a parameter: the code's answer is o
 
 module _ (t : List ℕ) (i e : ℕ) (p : Parts) (o : FormatRead) (w : tellFormat o ≡ parameterAt t i e) where
-  pub parameter-fit : (a : Parameter) (j : ℕ) → o ≡ FormatRead.Fit a j → (s : Parts) → s ≡ withParameter p a
-      → tellParts (PartsRead.Fit s j) ≡ (parameterAt t i e then λ a j. fit (withParameter p a) j)
+  pub parameter-fit : (a : Parameter) (j : ℕ) → o ≡ FormatRead.Fit j a → (s : Parts) → s ≡ withParameter p a
+      → tellParts (PartsRead.Fit j s) ≡ (parameterAt t i e then λ a j. fit (withParameter p a) j)
   unfolding tellParts
   parameter-fit a j q s r =
       ap (λ (z : Parts). fit z j) r ∙ sym (then-fit (parameterAt t i e) (λ (a : Parameter) (j : ℕ). fit (withParameter p a) j) a j (format-fit o (parameterAt t i e) w a j q))
@@ -44,7 +44,7 @@ module _ (t : List ℕ) (i e : ℕ) (p : Parts) (o : FormatRead) (w : tellFormat
 -- ---- a word
 
 module _ (t : List ℕ) (i e : ℕ) (p : Parts) (o : MetadataRead) (w : tellMetadata o ≡ specifierAt t i e) where
-  pub word-specifier : (m : LogMetadata) (j : ℕ) → o ≡ MetadataRead.Fit m j → (s : Parts) → s ≡ withSpecifier p m → tellParts (PartsRead.Fit s j) ≡ wordAt t e i p
+  pub word-specifier : (m : LogMetadata) (j : ℕ) → o ≡ MetadataRead.Fit j m → (s : Parts) → s ≡ withSpecifier p m → tellParts (PartsRead.Fit j s) ≡ wordAt t e i p
   unfolding tellParts wordAt
   word-specifier m j q s r =
       ap (λ (z : Parts). fit z j) r
@@ -66,7 +66,7 @@ module _ (t : List ℕ) (i e : ℕ) (p : Parts) (o : MetadataRead) (w : tellMeta
 -- ---- a list of words
 
 module _ (s : ℕ) (t : List ℕ) (i e : ℕ) (p : Parts) (o : PartsRead) (w : tellParts o ≡ wordAt t e i p) where
-  pub words-listed : (q : Parts) (j : ℕ) → o ≡ PartsRead.Fit q j → i ≤ j
+  pub words-listed : (q : Parts) (j : ℕ) → o ≡ PartsRead.Fit j q → i ≤ j
       → (x : Tried Parts) → ((n : ℕ) → e - j ≤ n → x ≡ further s t e (wordAt t e) n j q) → x ≡ listed s t e (wordAt t e) i p
   words-listed q j r h x f =
       let l = listed-fit s t e (wordAt t e) i p q j (parts-fit o (wordAt t e i p) w q j r) h in
@@ -80,7 +80,7 @@ module _ (s : ℕ) (t : List ℕ) (i e : ℕ) (p : Parts) (o : PartsRead) (w : t
   unfolding tellParts
   words-refused k r = sym (listed-refused s t e (wordAt t e) i p k (parts-refused o (wordAt t e i p) w k r))
 
-pub fit-told : (p : Parts) (j : ℕ) (x : Tried Parts) → fit p j ≡ x → tellParts (PartsRead.Fit p j) ≡ x
+pub fit-told : (p : Parts) (j : ℕ) (x : Tried Parts) → fit p j ≡ x → tellParts (PartsRead.Fit j p) ≡ x
 unfolding tellParts
 fit-told p j x q = q
 
@@ -91,7 +91,7 @@ refused-told r x q = q
 -- ---- an inner list that makes a segment
 
 module _ (t : List ℕ) (i e n : ℕ) (a : List ℕ) (o : PartsRead) (w : tellParts o ≡ listed 0x3A t e (wordAt t e) i noParts) where
-  pub inner-made : (q : Parts) (j : ℕ) → o ≡ PartsRead.Fit q j → (r : Reading) → tell r a ≡ makeOr (tell Reading.Misfit a) n j (segmentOf q) → tell r a ≡ innerAt t i e n
+  pub inner-made : (q : Parts) (j : ℕ) → o ≡ PartsRead.Fit j q → (r : Reading) → tell r a ≡ makeOr (tell Reading.Misfit a) n j (segmentOf q) → tell r a ≡ innerAt t i e n
   unfolding tell innerAt
   inner-made q j u r h =
       h ∙ sym (then-fit (listed 0x3A t e (wordAt t e) i noParts) (λ (p : Parts) (j : ℕ). makeOr misfit n j (segmentOf p)) q j (parts-fit o (listed 0x3A t e (wordAt t e) i noParts) w q j u))

@@ -26,7 +26,7 @@ use Rattle.template.specs.Template.{Template, read, refusal}
 
 -- a list of words
 unfoldable pub tellParts : PartsRead → Tried Parts
-tellParts (PartsRead.Fit p j) = fit p j
+tellParts (PartsRead.Fit j p) = fit p j
 tellParts PartsRead.Misfit = misfit
 tellParts (PartsRead.Refused r) = refused r
 
@@ -49,7 +49,7 @@ unfoldable pub tellItems : Items → List ℕ → Content
 tellItems c cells = record { parts = c .parts; taken = tellInner (c .inner) (c .made) cells; made = c .made }
 
 unfoldable pub tellItem : ItemRead → List ℕ → Tried Content
-tellItem (ItemRead.Fit c j) cells = fit (tellItems c cells) j
+tellItem (ItemRead.Fit j c) cells = fit (tellItems c cells) j
 tellItem ItemRead.Misfit cells = misfit
 tellItem (ItemRead.Refused r) cells = refused r
 
@@ -58,7 +58,7 @@ unfoldable pub tellPieces : Pieces → List ℕ → Group
 tellPieces g cells = record { members = chainAt cells (g .last); parts = g .parts; made = g .made }
 
 unfoldable pub tellPiece : PieceRead → List ℕ → Tried Group
-tellPiece (PieceRead.Fit g j) cells = fit (tellPieces g cells) j
+tellPiece (PieceRead.Fit j g) cells = fit (tellPieces g cells) j
 tellPiece PieceRead.Misfit cells = misfit
 tellPiece (PieceRead.Refused r) cells = refused r
 
@@ -88,7 +88,7 @@ builtOf c j = built (c .parts) (c .made) j (c .taken)
 
 -- what words make of an item
 unfoldable pub itemOf : Items → PartsRead → ItemRead
-itemOf c (PartsRead.Fit p j) = ItemRead.Fit (record { parts = p; inner = c .inner; made = c .made }) j
+itemOf c (PartsRead.Fit j p) = ItemRead.Fit j (record { parts = p; inner = c .inner; made = c .made })
 itemOf c PartsRead.Misfit = ItemRead.Misfit
 itemOf c (PartsRead.Refused r) = ItemRead.Refused r
 
@@ -116,7 +116,7 @@ pub record Room (cells : List ℕ) (n link : ℕ) : Type 0 where
 
 -- words that fit end from lo up to `to`
 unfoldable pub PartsWithin : ℕ → ℕ → PartsRead → Type 0
-PartsWithin lo to (PartsRead.Fit p j) = (lo ≤ j) × ((j ≤ to) × Narrow (p .format .width))
+PartsWithin lo to (PartsRead.Fit j p) = (lo ≤ j) × ((j ≤ to) × Narrow (p .format .width))
 PartsWithin lo to PartsRead.Misfit = Unit {0}
 PartsWithin lo to (PartsRead.Refused r) = Unit {0}
 
@@ -167,7 +167,7 @@ pub record ItemsKeep (n link d : ℕ) (cells : List ℕ) (c : Items) : Type 0 wh
   pub inner : InnerKeeps n link d cells (c .made) (c .inner)
 
 unfoldable pub ItemWithin : ℕ → ℕ → ℕ → ℕ → ℕ → List ℕ → ItemRead → Type 0
-ItemWithin lo to n link d cells (ItemRead.Fit c j) = (lo ≤ j) × ((j ≤ to) × ItemsKeep n link d cells c)
+ItemWithin lo to n link d cells (ItemRead.Fit j c) = (lo ≤ j) × ((j ≤ to) × ItemsKeep n link d cells c)
 ItemWithin lo to n link d cells ItemRead.Misfit = Unit {0}
 ItemWithin lo to n link d cells (ItemRead.Refused r) = Unit {0}
 
@@ -186,7 +186,7 @@ pub record PiecesKeep (n d : ℕ) (cells : List ℕ) (g : Pieces) : Type 0 where
   pub low : Lows d (chainAt cells (g .last))
 
 unfoldable pub PieceWithin : ℕ → ℕ → ℕ → ℕ → List ℕ → PieceRead → Type 0
-PieceWithin lo to n d cells (PieceRead.Fit g j) = (lo ≤ j) × ((j ≤ to) × PiecesKeep n d cells g)
+PieceWithin lo to n d cells (PieceRead.Fit j g) = (lo ≤ j) × ((j ≤ to) × PiecesKeep n d cells g)
 PieceWithin lo to n d cells PieceRead.Misfit = Unit {0}
 PieceWithin lo to n d cells (PieceRead.Refused r) = Unit {0}
 

@@ -10,7 +10,7 @@ pub mod reader;
 
 // What a list of words answers.
 pub enum PartsRead {
-    Fit(Parts, usize),
+    Fit(usize, Parts),
     Misfit,
     Refused(Refusal),
 }
@@ -39,27 +39,27 @@ pub enum Inner {
 
 // What the items of a content have given so far.
 pub struct Items {
+    pub made: usize,
     pub parts: Parts,
     pub inner: Inner,
-    pub made: usize,
 }
 
 pub enum ItemRead {
-    Fit(Items, usize),
+    Fit(usize, Items),
     Misfit,
     Refused(Refusal),
 }
 
 // What the pieces of a group have given so far: the link to its last member (0: none), and whether a member is a specifier.
 pub struct Pieces {
-    pub parts: Parts,
     pub last: usize,
-    pub direct: bool,
     pub made: usize,
+    pub parts: Parts,
+    pub direct: bool,
 }
 
 pub enum PieceRead {
-    Fit(Pieces, usize),
+    Fit(usize, Pieces),
     Misfit,
     Refused(Refusal),
 }

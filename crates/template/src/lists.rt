@@ -79,7 +79,7 @@ fn parse_word(t: &[u8], from: usize, to: usize, p: Parts) -> PartsRead
 {
     let m = words::parser::parse_metadata(t, from, to);
     match m {
-        MetadataRead::Fit(m, j) => PartsRead::Fit(with_specifier(p, m), j),
+        MetadataRead::Fit(j, m) => PartsRead::Fit(j, with_specifier(p, m)),
         MetadataRead::Misfit => parse_parameter(t, from, to, p),
         MetadataRead::Refused(r) => PartsRead::Refused(r),
     }
@@ -93,7 +93,7 @@ fn parse_parameter(t: &[u8], from: usize, to: usize, p: Parts) -> PartsRead
 {
     let a = words::parser::parse_format(t, from, to);
     match a {
-        FormatRead::Fit(a, j) => PartsRead::Fit(with_parameter(p, a), j),
+        FormatRead::Fit(j, a) => PartsRead::Fit(j, with_parameter(p, a)),
         FormatRead::Misfit => PartsRead::Misfit,
         FormatRead::Refused(r) => PartsRead::Refused(r),
     }
@@ -110,15 +110,15 @@ fn further_words(t: &[u8], from: usize, to: usize, p: Parts) -> PartsRead
     while words::runs::stands_at(b':', t, j, to) {
         let o = parse_word(t, j + 1, to, p);
         match o {
-            PartsRead::Fit(q, k) => {
+            PartsRead::Fit(k, q) => {
                 p = q;
                 j = k;
             }
-            PartsRead::Misfit => return PartsRead::Fit(p, j),
+            PartsRead::Misfit => return PartsRead::Fit(j, p),
             PartsRead::Refused(r) => return PartsRead::Refused(r),
         }
     }
-    PartsRead::Fit(p, j)
+    PartsRead::Fit(j, p)
 }
 
 fn parse_words(t: &[u8], from: usize, to: usize) -> PartsRead
@@ -128,7 +128,7 @@ fn parse_words(t: &[u8], from: usize, to: usize) -> PartsRead
 {
     let o = parse_word(t, from, to, no_parts());
     match o {
-        PartsRead::Fit(p, j) => further_words(t, j, to, p),
+        PartsRead::Fit(j, p) => further_words(t, j, to, p),
         PartsRead::Misfit => PartsRead::Misfit,
         PartsRead::Refused(r) => PartsRead::Refused(r),
     }
@@ -149,7 +149,7 @@ fn parse_nested_argument(
 {
     let o = parse_words(t, from, to);
     match o {
-        PartsRead::Fit(p, j) => make_specified(p, link, j, cells, n, Reading::Misfit),
+        PartsRead::Fit(j, p) => make_specified(p, link, j, cells, n, Reading::Misfit),
         PartsRead::Misfit => Reading::Misfit,
         PartsRead::Refused(r) => Reading::Refused(r),
     }
@@ -185,13 +185,13 @@ fn item_of(c: Items, o: PartsRead) -> ItemRead
 {
     let inner = c.inner;
     match o {
-        PartsRead::Fit(p, j) => ItemRead::Fit(
+        PartsRead::Fit(j, p) => ItemRead::Fit(
+            j,
             Items {
                 parts: p,
                 inner,
                 made: c.made,
             },
-            j,
         ),
         PartsRead::Misfit => ItemRead::Misfit,
         PartsRead::Refused(r) => ItemRead::Refused(r),
@@ -225,7 +225,7 @@ fn parse_even_item(
 {
     let o = parse_nested_argument(t, from, to, link, cells, c.made);
     match o {
-        Reading::Fit(j, k) => ItemRead::Fit(with_segment(c, k), j),
+        Reading::Fit(j, k) => ItemRead::Fit(j, with_segment(c, k)),
         Reading::Misfit => {
             let p = c.parts;
             let o = parse_parameter(t, from, to, p);
@@ -289,14 +289,14 @@ fn parse_nested_format(t: &[u8], from: usize, to: usize, g: Pieces) -> PieceRead
     let p = g.parts;
     let o = parse_parameter(t, from + 1, to, p);
     match o {
-        PartsRead::Fit(q, j) => PieceRead::Fit(
+        PartsRead::Fit(j, q) => PieceRead::Fit(
+            j,
             Pieces {
                 parts: q,
                 last: g.last,
                 direct: g.direct,
                 made: g.made,
             },
-            j,
         ),
         PartsRead::Misfit => PieceRead::Refused(Refusal::Failure),
         PartsRead::Refused(r) => PieceRead::Refused(r),
@@ -318,7 +318,7 @@ pub fn parse_plain_piece(
 {
     let o = parse_string_segment(t, from, to, g.last, cells, g.made);
     match o {
-        Reading::Fit(j, k) => PieceRead::Fit(with_member(g, false, k), j),
+        Reading::Fit(j, k) => PieceRead::Fit(j, with_member(g, false, k)),
         Reading::Misfit => parse_nested_format(t, from, to, g),
         Reading::Refused(r) => PieceRead::Refused(r),
     }

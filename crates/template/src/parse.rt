@@ -21,7 +21,11 @@ fn parse_top(t: &[u8], from: usize, cells: &mut [usize], n: usize) -> Reading
     ensures { λ r. ⌜ tell r (now (cells .exit)) ≡ (braceAt (now (t .entry)) (insideAt 8 false (now (t .entry))) from (length (now (t .entry))) n or-else λ _. textAt (now (t .entry)) from (length (now (t .entry))) n) ⌝ }
     ensures keeps { λ r. ⌜ Keeps (from + 1) (length (now (t .entry))) n n 8 (now (cells .entry)) (now (cells .exit)) r ⌝ }
 {
-    let o = parse_argument(t, from, t.len(), 8, false, n, cells, n);
+    let o = if words::runs::stands_at(b'{', t, from, t.len()) {
+        parse_argument(t, from, t.len(), 8, false, n, cells, n)
+    } else {
+        Reading::Misfit
+    };
     match o {
         Reading::Fit(j, k) => Reading::Fit(j, k),
         Reading::Misfit => parse_string_segment(t, from, t.len(), n, cells, n),

@@ -84,7 +84,7 @@ fn parse_log_segment(
     };
     let o = parse_item(t, from, to, left - 1, even, link, cells, none, n);
     match o {
-        ItemRead::Fit(c, j) => further_items(t, j, to, left - 1, even, link, cells, c, n),
+        ItemRead::Fit(j, c) => further_items(t, j, to, left - 1, even, link, cells, c, n),
         ItemRead::Misfit => Reading::Misfit,
         ItemRead::Refused(r) => Reading::Refused(r),
     }
@@ -118,7 +118,7 @@ fn further_items(
     while words::runs::stands_at(separator, t, j, to) {
         let o = parse_item(t, j + 1, to, left, even, link, cells, c, n);
         match o {
-            ItemRead::Fit(d, k) => {
+            ItemRead::Fit(k, d) => {
                 c = d;
                 j = k;
             }
@@ -148,11 +148,11 @@ fn parse_item(
 {
     let o = parse_plain_item(t, from, to, even, link, cells, c);
     match o {
-        ItemRead::Fit(d, j) => ItemRead::Fit(d, j),
+        ItemRead::Fit(j, d) => ItemRead::Fit(j, d),
         ItemRead::Misfit => {
             let g = parse_nested(t, from, to, left, !even, link, cells, c.made);
             match g {
-                Reading::Fit(j, k) => ItemRead::Fit(with_segment(c, k), j),
+                Reading::Fit(j, k) => ItemRead::Fit(j, with_segment(c, k)),
                 Reading::Misfit => ItemRead::Misfit,
                 Reading::Refused(r) => ItemRead::Refused(r),
             }
@@ -186,7 +186,7 @@ fn parse_nested(
     while i < to {
         let o = parse_piece(t, i, to, left, even, cells, g, n);
         match o {
-            PieceRead::Fit(h, j) => {
+            PieceRead::Fit(j, h) => {
                 g = h;
                 i = j;
             }
@@ -225,11 +225,16 @@ fn parse_piece(
     ensures front { λ _. ⌜ take (8 * g .made) (now (cells .exit)) ≡ take (8 * g .made) (now (cells .entry)) ⌝ }
     ensures keeps { λ r. ⌜ PieceWithin (from + 1) to n left (now (cells .exit)) r ⌝ }
 {
-    let o = parse_argument(t, from, to, left, even, g.last, cells, g.made);
+    // most pieces are no brace, and to see that costs less than the call
+    let o = if words::runs::stands_at(b'{', t, from, to) {
+        parse_argument(t, from, to, left, even, g.last, cells, g.made)
+    } else {
+        Reading::Misfit
+    };
     match o {
         Reading::Fit(j, k) => {
             let direct = is_specifier_at(cells, k - 1);
-            PieceRead::Fit(with_member(g, direct, k), j)
+            PieceRead::Fit(j, with_member(g, direct, k))
         }
         Reading::Misfit => parse_plain_piece(t, from, to, cells, g),
         Reading::Refused(r) => PieceRead::Refused(r),

@@ -1,11 +1,11 @@
--- Laws of writing a number from its last digit on. Assumes nothing.
-use mathlib.Core.Path.{_≡_, ap, sym, _∙_}
+-- Laws of writing a number, and of counting its digits, from the last one on. Assumes nothing.
+use mathlib.Core.Path.{_≡_, ap, sym, _∙_, subst}
 use mathlib.Core.List.{List, [], _∷_, _++_, append-nil, append-assoc}
 use Prim.Native.Nat.{ℕ, zero, suc, _+_, _-_, _*_, _/_, _%_, _^_, _<_, _≤_}
 use native.Mathlib.Nat.{pow-succ'}
 use native.Mathlib.Numerals.{add-one}
 use native.Mathlib.Omega.{arith}
-use lib.ListN.{length, take, drop, set, length-drop, length-set, drop-of-length-le}
+use lib.ListN.{length, take, drop, set, length-append, length-drop, length-set, drop-of-length-le}
 use lib.Seq.{length-take-le, set-split, drop-at, take-all}
 use borrow.Author.Tests.{lt-ltb, le-ltb}
 use Rattle.text.specs.Bytes.{part}
@@ -63,3 +63,24 @@ module _ (i n b : ℕ) (into z : List ℕ) (h : i < length into) (p : digits (i 
       ∙ ap (λ (x : ℕ). x ∷ drop (i + 1) into) e
       ∙ ap (λ (l : List ℕ). l ++ drop (i + 1) into) (sym (digits-one i n f) ∙ ap (λ (m : ℕ). digits m n) (sym (add-one i)))
       ∙ p
+
+-- k digits are counted, and n is left; the first one is counted from the start
+module _ (k n z : ℕ) (h : n < 10 ^ (10 - k + 1)) (p : k + length (digits (10 - k + 1) n) ≡ z) where
+  -- one digit more, not the first
+  pub count-turn : 10 ≤ n → (k < 10) × ((n / 10 < 10 ^ (10 - (k + 1) + 1)) × (k + 1 + length (digits (10 - (k + 1) + 1) (n / 10)) ≡ z))
+  count-turn g =
+      let i = 10 - k in
+      let r : 0 < i = room i n h g in
+      let e : i - 1 + 1 ≡ 10 - (k + 1) + 1 = omega arith in
+      let f : 10 - (k + 1) + 1 ≡ i = omega arith in
+      let a : digits (i + 1) n ≡ digits i (n / 10) ++ (0x30 + n % 10) ∷ [] = ap (λ (m : ℕ). digits m n) (add-one i) ∙ digits-more i n g in (
+        omega arith,
+        (
+          subst (λ (m : ℕ). n / 10 < 10 ^ m) e (fewer i n r h),
+          omega (arith, ap length a, length-append (digits i (n / 10)) ((0x30 + n % 10) ∷ []), ap (λ (m : ℕ). length (digits m (n / 10))) f),
+        ),
+      )
+
+  -- the first digit
+  pub count-end : n < 10 → k + 1 ≡ z
+  count-end g = omega (arith, ap (λ (m : ℕ). length (digits m n)) (add-one (10 - k)), ap length (digits-one (10 - k) n g))

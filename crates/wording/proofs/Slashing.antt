@@ -1,10 +1,11 @@
--- Laws of the text of components, one after the other: said once, for measuring and for writing. Assumes nothing.
+-- Laws of the text of components, one after the other: said once, for measuring, counting and writing. Assumes nothing.
 use mathlib.Core.Path.{_≡_, ap, sym, _∙_}
 use mathlib.Core.List.{List, [], _++_}
-use Prim.Native.Nat.{ℕ, _+_, _<_, _≤_}
+use Prim.Native.Nat.{ℕ, _+_, _-_, _<_, _≤_}
 use native.Mathlib.Omega.{arith}
 use lib.ListN.{length, length-append}
 use Rattle.text.specs.Bytes.{bytes, part}
+use Rattle.text.proofs.Parts.{part-length}
 use Rattle.fields.specs.declared.paths.Component.{Component}
 use Rattle.fields.specs.Paths.{components, lastOf, slashed}
 use Rattle.fields.specs.Remaining.{remaining, listed}
@@ -25,6 +26,10 @@ module _ (d : List ℕ) (k e : ℕ) (c : Component) (p : remaining k e d ≡ lis
   pub slashed-room : (i j : ℕ) → c ≡ Component.At i j → 1 + length (part i j d) ≤ length (slashed (remaining k e d))
   slashed-room i j q = omega (arith, ap length (slashed-at i j q), length-append (part i j d) (slashed (remaining j e d)))
 
+  pub slashed-length : (i j : ℕ) → c ≡ Component.At i j → i ≤ j → j ≤ length d
+      → length (slashed (remaining k e d)) ≡ 1 + (j - i) + length (slashed (remaining j e d))
+  slashed-length i j q h g = omega (arith, ap length (slashed-at i j q), length-append (part i j d) (slashed (remaining j e d)), part-length d i j h g)
+
 -- ---- the whole name
 
 module _ (d : List ℕ) (f e n : ℕ) (c : Component) (p : listed c e d ≡ lastOf n (components (part f e d))) where
@@ -39,3 +44,6 @@ module _ (d : List ℕ) (f e n : ℕ) (c : Component) (p : listed c e d ≡ last
 
   pub name-room : (i j : ℕ) → c ≡ Component.At i j → length (part i j d) ≤ length (nameText f e n d)
   name-room i j q = omega (arith, ap length (name-at i j q), length-append (part i j d) (slashed (remaining j e d)))
+
+  pub name-length : (i j : ℕ) → c ≡ Component.At i j → i ≤ j → j ≤ length d → length (nameText f e n d) ≡ j - i + length (slashed (remaining j e d))
+  name-length i j q h g = omega (arith, ap length (name-at i j q), length-append (part i j d) (slashed (remaining j e d)), part-length d i j h g)

@@ -20,6 +20,19 @@ pub(crate) fn add_number(n: usize, a: Measure) -> Measure
     add(a, &into[from..10])
 }
 
+pub(crate) fn number_len(n: usize) -> usize
+    requires { ⌜ n < 2 ^ 32 ⌝ }
+    ensures { λ r. ⌜ r ≡ length (decimalText n) ⌝ }
+{
+    let mut left = n;
+    let mut k = 1;
+    while 10 <= left {
+        left = left / 10;
+        k += 1;
+    }
+    k
+}
+
 pub(crate) fn put_number(n: usize, out: &mut [u8], at: usize) -> usize
     requires { ⌜ n < 2 ^ 32 ⌝ }
     requires { ⌜ at + length (decimalText n) ≤ length (now out) ⌝ }

@@ -47,6 +47,37 @@ fn add_slashed(d: &[u8], i: usize, e: usize, a: Measure) -> Measure
     }
 }
 
+// The bytes of the last n components of the path from place i up to place e.
+pub(crate) fn file_name_len(d: &[u8], i: usize, e: usize, n: usize) -> usize
+    requires { ⌜ (i ≤ e) × (e ≤ length (now d)) ⌝ }
+    requires { ⌜ length (nameText i e n (now d)) < 2 ^ 58 ⌝ }
+    ensures { λ r. ⌜ r ≡ length (nameText i e n (now (d .entry))) ⌝ }
+{
+    let first = first_shown(d, i, e, n);
+    let Component::At(from, to) = first else {
+        return 6;
+    };
+    to - from + slashed_len(d, to, e)
+}
+
+// The bytes of the components that remain from place i on, a slash before each.
+fn slashed_len(d: &[u8], i: usize, e: usize) -> usize
+    requires { ⌜ (i ≤ e) × (e ≤ length (now d)) ⌝ }
+    requires { ⌜ length (slashed (remaining i e (now d))) < 2 ^ 58 ⌝ }
+    ensures { λ r. ⌜ r ≡ length (slashed (remaining i e (now (d .entry)))) ⌝ }
+{
+    let mut k = i;
+    let mut b = 0;
+    loop {
+        let c = next_component(d, k, e);
+        let Component::At(from, to) = c else {
+            return b;
+        };
+        b += 1 + (to - from);
+        k = to;
+    }
+}
+
 // Writes the last n components of the path from place i up to place e.
 pub(crate) fn put_file_name(
     d: &[u8],

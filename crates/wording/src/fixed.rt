@@ -28,6 +28,23 @@ pub(crate) fn add_fixed(x: Fixed, a: Measure) -> Measure
     }
 }
 
+pub(crate) fn fixed_len(x: Fixed) -> usize
+    ensures { λ r. ⌜ r ≡ length (fixedText x) ⌝ }
+{
+    match x {
+        Fixed::Empty => 0,
+        Fixed::Crate => 7,
+        Fixed::File => 6,
+        Fixed::ModulePath => 10,
+        Fixed::Time => 6,
+        Fixed::Error => 5,
+        Fixed::Warn => 4,
+        Fixed::Info => 4,
+        Fixed::Debug => 5,
+        Fixed::Trace => 5,
+    }
+}
+
 pub(crate) fn put_fixed(x: Fixed, out: &mut [u8], at: usize) -> usize
     requires { ⌜ at + length (fixedText x) ≤ length (now out) ⌝ }
     ensures { λ r. ⌜ (r ≡ at + length (fixedText x)) × (now (out .exit) ≡ putAt (now (out .entry)) at (fixedText x)) ⌝ }

@@ -1,10 +1,13 @@
-// A specifier's text, measured and written: two functions that agree on `bytesOf`.
+// A specifier's text, measured, counted and written: three functions that agree on `bytesOf`.
 use decimal::add_number;
+use decimal::number_len;
 use decimal::put_number;
 use fields::Wording;
 use file_name::add_file_name;
+use file_name::file_name_len;
 use file_name::put_file_name;
 use fixed::add_fixed;
+use fixed::fixed_len;
 use fixed::put_fixed;
 use measure::Measure;
 use measure::growing::add;
@@ -31,6 +34,20 @@ pub fn add_wording(d: &[u8], w: Wording, a: Measure) -> Measure
         Wording::Fixed(x) => add_fixed(x, a),
         Wording::Number(n) => add_number(n, a),
         Wording::Components(i, j, n) => add_file_name(d, i, j, n, a),
+    }
+}
+
+// The bytes of the text that w stands for, told by its places: none of them is looked at, but those of a path.
+pub fn wording_len(d: &[u8], w: Wording) -> usize
+    requires { ⌜ WordingWithin (length (now d)) w ⌝ }
+    requires { ⌜ length (bytesOf w (now d)) < 2 ^ 58 ⌝ }
+    ensures { λ r. ⌜ r ≡ length (bytesOf w (now (d .entry))) ⌝ }
+{
+    match w {
+        Wording::Part(i, j) => j - i,
+        Wording::Fixed(x) => fixed_len(x),
+        Wording::Number(n) => number_len(n),
+        Wording::Components(i, j, n) => file_name_len(d, i, j, n),
     }
 }
 

@@ -27,7 +27,7 @@ use Rattle.words.proofs.Running.{run-end}
 -- ---- words
 
 -- the word at hand is in the table, or isn't: what the code answers then
-pub word-read : (from to : ℕ) (x : Maybe Parameter) (o : FormatRead) (p : Parameter) → x ≡ some p → o ≡ FormatRead.Fit p to → Wide p → from < to
+pub word-read : (from to : ℕ) (x : Maybe Parameter) (o : FormatRead) (p : Parameter) → x ≡ some p → o ≡ FormatRead.Fit to p → Wide p → from < to
     → (tellFormat o ≡ sensed to (sense x)) × FormatWithin from to o
 unfolding tellFormat FormatWithin sensed sense
 word-read from to x o p q r v h = (ap tellFormat r ∙ sym (ap (λ (y : Maybe Parameter). sensed to (sense y)) q), rw r (omega arith, omega arith, v))

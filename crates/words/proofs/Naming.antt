@@ -103,7 +103,7 @@ letter-alone t i j h g =
 
 -- the letter b is k, which stands for m
 pub letter-fit : (i b k : ℕ) (m : LogMetadata) → b ≡ k → specifierOf (k ∷ []) ≡ stands-for m → Named m
-    → (tellMetadata (MetadataRead.Fit m (i + 1)) ≡ sensed (i + 1) (specifierOf (b ∷ []))) × MetadataWithin i (i + 1) (MetadataRead.Fit m (i + 1))
+    → (tellMetadata (MetadataRead.Fit (i + 1) m) ≡ sensed (i + 1) (specifierOf (b ∷ []))) × MetadataWithin i (i + 1) (MetadataRead.Fit (i + 1) m)
 unfolding tellMetadata MetadataWithin
 letter-fit i b k m q s n =
     (sym (ap (λ (x : ℕ). sensed (i + 1) (specifierOf (x ∷ []))) q ∙ sensed-fit (i + 1) _ m s), (omega arith, omega arith, n))

@@ -55,11 +55,11 @@ listed separator t e item i s = item i s then λ s′ j. further separator t e i
 
 -- what each case of the code's answers says
 unfoldable pub tellMetadata : MetadataRead → Tried LogMetadata
-tellMetadata (MetadataRead.Fit m j) = fit m j
+tellMetadata (MetadataRead.Fit j m) = fit m j
 tellMetadata MetadataRead.Misfit = misfit
 tellMetadata (MetadataRead.Refused r) = refused r
 
 unfoldable pub tellFormat : FormatRead → Tried Parameter
-tellFormat (FormatRead.Fit p j) = fit p j
+tellFormat (FormatRead.Fit j p) = fit p j
 tellFormat FormatRead.Misfit = misfit
 tellFormat (FormatRead.Refused r) = refused r

@@ -25,11 +25,11 @@ Wide (Parameter.WidthAndAlignment n z a) = n ≤ 512
 
 -- what fits is a byte long at least and ends by `to`
 unfoldable pub MetadataWithin : ℕ → ℕ → MetadataRead → Type 0
-MetadataWithin from to (MetadataRead.Fit m j) = (from + 1 ≤ j) × (j ≤ to) × Named m
+MetadataWithin from to (MetadataRead.Fit j m) = (from + 1 ≤ j) × (j ≤ to) × Named m
 MetadataWithin from to MetadataRead.Misfit = Unit {0}
 MetadataWithin from to (MetadataRead.Refused r) = Unit {0}
 
 unfoldable pub FormatWithin : ℕ → ℕ → FormatRead → Type 0
-FormatWithin from to (FormatRead.Fit p j) = (from + 1 ≤ j) × (j ≤ to) × Wide p
+FormatWithin from to (FormatRead.Fit j p) = (from + 1 ≤ j) × (j ≤ to) × Wide p
 FormatWithin from to FormatRead.Misfit = Unit {0}
 FormatWithin from to (FormatRead.Refused r) = Unit {0}

@@ -9,7 +9,7 @@ pub mod spelling;
 // What a specifier shows.
 pub enum LogMetadata {
     CrateName,
-    FileName(usize),
+    FileName(u8),
     FilePath,
     LineNumber,
     Log,
@@ -59,10 +59,10 @@ pub enum Padding {
     Zero,
 }
 
-// The width that a segment asks for.
+// The width that a segment asks for: 512 at most. What is copied from reader to reader holds its numbers narrow.
 pub enum Width {
     Default,
-    Given(usize),
+    Given(u16),
 }
 
 pub struct Styles {
@@ -75,30 +75,31 @@ pub struct Styles {
 
 // How a specifier or a group asks to be written.
 pub struct LogFormat {
-    pub width: Width,
-    pub color: LogColor,
     pub styles: Styles,
     pub alignment: Alignment,
     pub padding: Padding,
+    pub color: LogColor,
+    pub width: Width,
 }
 
 // One parameter of a specifier or a group.
 pub enum Parameter {
     Color(LogColor),
     Style(Style),
-    WidthAndAlignment(usize, Padding, Alignment),
+    WidthAndAlignment(u16, Padding, Alignment),
 }
 
-// What is found where a specifier is tried: it and the place after it, or a misfit, or a refusal.
+// What is found where a specifier is tried: the place after it and what it is, or a misfit, or a refusal. The place stands first, so that no gap
+// is left before it: an answer is copied with its gaps.
 pub enum MetadataRead {
-    Fit(LogMetadata, usize),
+    Fit(usize, LogMetadata),
     Misfit,
     Refused(Refusal),
 }
 
 // What is found where a parameter is tried.
 pub enum FormatRead {
-    Fit(Parameter, usize),
+    Fit(usize, Parameter),
     Misfit,
     Refused(Refusal),
 }

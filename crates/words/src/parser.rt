@@ -50,14 +50,14 @@ fn letter_metadata(t: &[u8], from: usize) -> MetadataRead
     ensures within { λ r. ⌜ MetadataWithin from (from + 1) r ⌝ }
 {
     match t[from] {
-        b'c' => MetadataRead::Fit(LogMetadata::CrateName, from + 1),
-        b'f' => MetadataRead::Fit(LogMetadata::FileName(1), from + 1),
-        b'F' => MetadataRead::Fit(LogMetadata::FilePath, from + 1),
-        b'l' => MetadataRead::Fit(LogMetadata::LineNumber, from + 1),
-        b's' => MetadataRead::Fit(LogMetadata::Log, from + 1),
-        b'L' => MetadataRead::Fit(LogMetadata::LogLevel, from + 1),
-        b'm' => MetadataRead::Fit(LogMetadata::ModulePath, from + 1),
-        b't' => MetadataRead::Fit(LogMetadata::Timestamp, from + 1),
+        b'c' => MetadataRead::Fit(from + 1, LogMetadata::CrateName),
+        b'f' => MetadataRead::Fit(from + 1, LogMetadata::FileName(1)),
+        b'F' => MetadataRead::Fit(from + 1, LogMetadata::FilePath),
+        b'l' => MetadataRead::Fit(from + 1, LogMetadata::LineNumber),
+        b's' => MetadataRead::Fit(from + 1, LogMetadata::Log),
+        b'L' => MetadataRead::Fit(from + 1, LogMetadata::LogLevel),
+        b'm' => MetadataRead::Fit(from + 1, LogMetadata::ModulePath),
+        b't' => MetadataRead::Fit(from + 1, LogMetadata::Timestamp),
         _ => MetadataRead::Misfit,
     }
 }
@@ -76,7 +76,7 @@ fn file_name(t: &[u8], from: usize, to: usize) -> MetadataRead
     }
     let n = to - from;
     if n <= 255 {
-        MetadataRead::Fit(LogMetadata::FileName(n), to)
+        MetadataRead::Fit(to, LogMetadata::FileName(n as u8))
     } else {
         MetadataRead::Refused(Refusal::TooManyF)
     }
@@ -98,13 +98,13 @@ fn parse_color(t: &[u8], from: usize, to: usize) -> FormatRead
 }
 
 fn log_color(c: LogColor, to: usize) -> FormatRead
-    ensures { λ r. ⌜ r ≡ FormatRead.Fit (Parameter.Color c) to ⌝ }
+    ensures { λ r. ⌜ r ≡ FormatRead.Fit to (Parameter.Color c) ⌝ }
 {
-    FormatRead::Fit(Parameter::Color(c), to)
+    FormatRead::Fit(to, Parameter::Color(c))
 }
 
 fn color(c: Color, to: usize) -> FormatRead
-    ensures { λ r. ⌜ r ≡ FormatRead.Fit (Parameter.Color (LogColor.Color c)) to ⌝ }
+    ensures { λ r. ⌜ r ≡ FormatRead.Fit to (Parameter.Color (LogColor.Color c)) ⌝ }
 {
     log_color(LogColor::Color(c), to)
 }
@@ -179,9 +179,9 @@ fn parse_style(t: &[u8], from: usize, to: usize) -> FormatRead
 }
 
 fn style(s: Style, to: usize) -> FormatRead
-    ensures { λ r. ⌜ r ≡ FormatRead.Fit (Parameter.Style s) to ⌝ }
+    ensures { λ r. ⌜ r ≡ FormatRead.Fit to (Parameter.Style s) ⌝ }
 {
-    FormatRead::Fit(Parameter::Style(s), to)
+    FormatRead::Fit(to, Parameter::Style(s))
 }
 
 fn padding(b: u8) -> Padding
@@ -209,7 +209,7 @@ fn parse_digits(t: &[u8], from: usize, to: usize, alignment: Alignment) -> Forma
         return FormatRead::Refused(Refusal::TooWide);
     }
     let z = padding(t[from]);
-    FormatRead::Fit(Parameter::WidthAndAlignment(n, z, alignment), j)
+    FormatRead::Fit(j, Parameter::WidthAndAlignment(n as u16, z, alignment))
 }
 
 // Left alignment is the default.

@@ -1,12 +1,14 @@
 -- `answer::packing::pack_refusal` meets its contract. Assumes nothing.
 use native.Mathlib.Omega.{arith}
-use Rattle.answer.proofs.Answering.{number-small}
 use borrow.Author.Needs.{needs}
 use Rattle.answer.proofs.packing.pack_refusal.Statement.{statement}
 use Rattle.answer.proofs.packing.pack_refusal.Tie as tie
 
 number-of-requires : tie.Need-number-of-requires
 number-of-requires c κs = search needs
+
+cast-result : tie.Need-cast-result
+cast-result c = search needs
 
 length-with-requires : tie.Need-length-with-requires
 length-with-requires c κs = search needs
@@ -16,11 +18,11 @@ mul-result c = search needs
 
 add-result : tie.Need-add-result
 add-result c =
-    omega (arith, c .before .before .pre, c .length-with .ensures, c .before .number-of .ensures, number-small (c .before .before .args .r))
+    omega (arith, c .before .before .pre, c .length-with .ensures, c .before .number-of .ensures)
 
 returns : tie.Need-returns
 returns c = search needs
 
 pub pack-refusal-spec : {M : Type 1} → statement M
 pack-refusal-spec =
-    tie.close (tie.spec number-of-requires length-with-requires mul-result add-result returns)
+    tie.close (tie.spec number-of-requires cast-result length-with-requires mul-result add-result returns)

@@ -22,6 +22,9 @@ enum-known-read c = search needs
 number-of-requires : tie.Need-number-of-requires
 number-of-requires c κs = search needs
 
+cast-result : tie.Need-cast-result
+cast-result c = search needs
+
 returns : tie.Need-returns
 unfolding tellParsed checkOf
 returns c =
@@ -38,7 +41,7 @@ returns-2 c =
     let cells = q .last .1 .0 in
     let eq = c .before .before .read .given .1 in
     let told = sym (q .ensures .0) ∙ ap (λ (x : Parsed). tellParsed x cells) eq in
-    c .number-of .ensures ∙ ap checkOf (sym told)
+    c .number-of .ensures .0 ∙ ap checkOf (sym told)
 
 pub check-template-spec : {M : Type 1} → statement M
 check-template-spec =
@@ -49,5 +52,6 @@ check-template-spec =
     enum-told
     enum-known-read
     number-of-requires
+    cast-result
     returns
     returns-2)

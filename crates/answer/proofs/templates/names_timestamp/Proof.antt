@@ -42,6 +42,9 @@ enum-known-read-2 c = search needs
 number-of-requires : tie.Need-number-of-requires
 number-of-requires c κs = search needs
 
+cast-result : tie.Need-cast-result
+cast-result c = search needs
+
 returns-2 : tie.Need-returns-2
 unfolding tellParsed
 returns-2 c =
@@ -58,7 +61,7 @@ returns-3 c =
     let cells = q .last .1 .0 in
     let eq = c .before .before .read2 .given .1 in
     let told = sym (q .ensures .0) ∙ ap (λ (x : Parsed). tellParsed x cells) eq in
-    c .number-of .ensures ∙ ap timestampOf (sym told)
+    c .number-of .ensures .0 ∙ ap timestampOf (sym told)
 
 pub names-timestamp-spec : {M : Type 1} → statement M
 names-timestamp-spec =
@@ -72,5 +75,6 @@ names-timestamp-spec =
     returns
     enum-known-read-2
     number-of-requires
+    cast-result
     returns-2
     returns-3)

@@ -2,20 +2,22 @@
 use borrow.Author.Needs.{needs}
 use Rattle.dress.proofs.in_place.dress.Statement.{statement}
 use Rattle.dress.proofs.in_place.dress.Tie as tie
-use mathlib.Core.Path.{ap, sym, _∙_}
+use mathlib.Core.Path.{ap, _∙_}
 use Prim.Native.Nat.{ℕ, _-_}
 use native.Mathlib.Nat.{sub-zero}
-use lib.ListN.{length, take}
+use native.Mathlib.Omega.{arith}
+use lib.ListN.{length, take, length-take}
 use Rattle.text.specs.Bytes.{part}
 use Rattle.text.specs.Buffer.{putAt}
 use Rattle.colour.specs.Looks.{prefix}
 use Rattle.colour.specs.Formatting.{padByte}
-use Rattle.dress.specs.Opening.{written}
-use Rattle.dress.proofs.Coding.{written-within}
 use Rattle.dress.proofs.Laying.{fits-search, text-searched}
 
-prefix-bytes-requires : tie.Need-prefix-bytes-requires
-prefix-bytes-requires c κs = search needs
+slice-aggregate-put-prefix : tie.Need-slice-aggregate-put-prefix
+slice-aggregate-put-prefix c = search needs
+
+put-prefix-requires : tie.Need-put-prefix-requires
+put-prefix-requires c κs = search needs
 
 sub-lay : tie.Need-sub-lay
 sub-lay c = search needs
@@ -24,20 +26,21 @@ part-lay-start : tie.Need-part-lay-start
 part-lay-start c = search needs
 
 part-lay-end : tie.Need-part-lay-end
-part-lay-end c = let r = c .before .before .before .prefix-bytes in written-within (r .result) (r .ensures .1 .0 ∙ sym (ap length (r .ensures .0)))
+part-lay-end c =
+    let r = c .before .before .before .put-prefix in
+    omega (arith, r .ensures .0, ap length (r .ensures .1 .0), length-take (r .result) (r .last .1 .0))
 
 pad-byte-requires : tie.Need-pad-byte-requires
 pad-byte-requires c κs = search needs
 
 lay-requires : tie.Need-lay-requires
-unfolding written
 lay-requires c κs =
-    let s = c .before .before .before .before .before .before .before .before in
-    let r = c .before .before .before .before .before .prefix-bytes in
-    let e = ap (λ (n : ℕ). take n (r .result .bytes)) (sub-zero (r .result .len)) ∙ r .ensures .0 in (
+    let r = c .before .before .before .before .before .put-prefix in
+    let s = c .before .before .before .before .before .before .before .before .before in
+    let e = ap (λ (n : ℕ). take n (r .last .1 .0)) (sub-zero (r .result)) ∙ r .ensures .1 .0 in (
       (
         s .pre .0 .0,
-        fits-search (prefix (s .args .f .look)) (take (r .result .len - 0) (r .result .bytes)) (part (s .args .i) (s .args .e) (s .args .out .now))
+        fits-search (prefix (s .args .f .look)) (take (r .result - 0) (r .last .1 .0)) (part (s .args .i) (s .args .e) (s .args .out .now))
             (s .args .at) (s .args .l) (s .args .e) e (s .pre .0 .1),
       ),
       s .pre .1,
@@ -47,24 +50,25 @@ same-length : tie.Need-same-length
 same-length c = search needs
 
 returns : tie.Need-returns
-unfolding written
 returns c =
-    let s = c .before .before .before .before .before .before .before .before .before .before .before in
-    let r = c .before .before .before .before .before .before .before .before .prefix-bytes in
     let w = c .before .before .lay in
-    let e = ap (λ (n : ℕ). take n (r .result .bytes)) (sub-zero (r .result .len)) ∙ r .ensures .0 in (
+    let z = c .before .before .before .pad-byte in
+    let r = c .before .before .before .before .before .before .before .before .put-prefix in
+    let s = c .before .before .before .before .before .before .before .before .before .before .before .before in
+    let e = ap (λ (n : ℕ). take n (r .last .1 .0)) (sub-zero (r .result)) ∙ r .ensures .1 .0 in (
       w .ensures .0,
       w .ensures .1
           ∙ ap (putAt (s .args .out .now) (s .args .at))
-          (text-searched (prefix (s .args .f .look)) (take (r .result .len - 0) (r .result .bytes)) (part (s .args .i) (s .args .e) (s .args .out .now))
-          (s .args .l) (s .args .r) (c .before .before .before .pad-byte .result) (padByte (s .args .f .padding)) e (c .before .before .before .pad-byte .ensures)),
+          (text-searched (prefix (s .args .f .look)) (take (r .result - 0) (r .last .1 .0)) (part (s .args .i) (s .args .e) (s .args .out .now))
+          (s .args .l) (s .args .r) (z .result) (padByte (s .args .f .padding)) e (z .ensures)),
     )
 
 pub dress-spec : {M : Type 1} → statement M
 dress-spec =
     tie.close
     (tie.spec
-    prefix-bytes-requires
+    slice-aggregate-put-prefix
+    put-prefix-requires
     sub-lay
     part-lay-start
     part-lay-end

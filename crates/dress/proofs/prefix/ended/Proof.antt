@@ -2,29 +2,36 @@
 use borrow.Author.Needs.{needs}
 use Rattle.dress.proofs.prefix.ended.Statement.{statement}
 use Rattle.dress.proofs.prefix.ended.Tie as tie
-use mathlib.Core.Path.{refl, sym, _∙_}
+use mathlib.Core.Path.{ap, sym, _∙_}
 use native.Mathlib.Omega.{arith}
-use Rattle.dress.specs.Opening.{written}
-use Rattle.dress.proofs.Coding.{length-written, closed-one, closed-more}
+use lib.ListN.{length, take, length-append}
+use lib.Seq.{length-take-le}
+use Rattle.text.specs.Bytes.{bytes}
+use Rattle.dress.proofs.Coding.{take-push, closed-one, closed-more}
 
 returns : tie.Need-returns
-unfolding written
 returns c =
-    let p = c .before .before .args .p in
-    let n = length-written p (c .before .before .pre .0) (omega arith) in
-    (sym (closed-one (written p) (omega (arith, n, c .if1 .taken))), refl)
+    let s = c .before in
+    let n = length-take-le (s .args .n) (s .args .into .now) (omega (arith, s .pre)) in
+    let e = closed-one (take (s .args .n) (s .args .into .now)) (omega (arith, n, c .if1 .taken)) in
+    (sym e, sym (ap length e))
 
-push-requires : tie.Need-push-requires
-push-requires c κs = search needs
+slice-write-into : tie.Need-slice-write-into
+slice-write-into c = search needs
+
+add-result : tie.Need-add-result
+add-result c = search needs
+
+same-length : tie.Need-same-length
+same-length c = search needs
 
 returns-2 : tie.Need-returns-2
 returns-2 c =
-    let p = c .before .before .before .args .p in
-    let s = c .before .before .before in
-    let n = length-written p (s .pre .0) (omega (arith, s .pre .1)) in (
-      c .push .ensures .0 ∙ closed-more (written p) (omega (arith, n, c .before .if1 .left, s .pre .1)),
-      sym (length-written (c .push .result) (c .push .ensures .1 .0) (omega (arith, c .push .ensures .1 .1, s .pre .1))),
-    )
+    let s = c .before in
+    let d = s .args .into .now in
+    let n = length-take-le (s .args .n) d (omega (arith, s .pre)) in
+    let m = closed-more (take (s .args .n) d) (omega (arith, n, c .if1 .left, s .pre)) in
+    (take-push d (s .args .n) 0x6D (s .pre .1) ∙ m, omega (arith, n, length-append (take (s .args .n) d) (bytes "m"), ap length m))
 
 pub ended-spec : {M : Type 1} → statement M
-ended-spec = tie.close (tie.spec returns push-requires returns-2)
+ended-spec = tie.close (tie.spec returns slice-write-into add-result same-length returns-2)

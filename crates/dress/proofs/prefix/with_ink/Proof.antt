@@ -3,14 +3,13 @@ use borrow.Author.Needs.{needs}
 use Rattle.dress.proofs.prefix.with_ink.Statement.{statement}
 use Rattle.dress.proofs.prefix.with_ink.Tie as tie
 use mathlib.Core.Path.{ap, sym, _∙_}
-use mathlib.Core.List.{List, [], _∷_, _++_}
-use Prim.Native.Nat.{ℕ, _+_}
+use mathlib.Core.List.{_++_}
+use Prim.Native.Nat.{_+_}
 use native.Mathlib.Omega.{arith}
-use lib.ListN.{getD}
+use lib.ListN.{take, getD, set, length-set}
 use Rattle.colour.specs.declared.Ink.{Ink}
-use Rattle.colour.specs.declared.Ink.the-variants.{Inked}
 use Rattle.colour.specs.Looks.{inkCodes}
-use Rattle.dress.specs.Opening.{written, between, joined, foregrounds}
+use Rattle.dress.specs.Opening.{between, joined, foregrounds}
 use Rattle.dress.proofs.Coding.{ink-code, no-ink}
 
 enum-known-ink : tie.Need-enum-known-ink
@@ -21,9 +20,10 @@ enum-told c = search needs
 
 returns : tie.Need-returns
 returns c =
-    let p = c .before .before .args .p in (
-      no-ink (written p) (between (p .len)) ∙ ap (λ (i : Ink). written p ++ joined (between (p .len)) (inkCodes i)) (sym (c .enum-told .given .1)),
-      (c .before .before .pre .0, (omega arith, omega arith)),
+    let s = c .before .before .before in
+    let f = take (s .args .n) (s .args .into .now) in (
+      no-ink f (between (s .args .n)) ∙ ap (λ (i : Ink). f ++ joined (between (s .args .n)) (inkCodes i)) (sym (c .enum-told .given .1)),
+      (omega arith, omega arith),
     )
 
 foreground-at-requires : tie.Need-foreground-at-requires
@@ -32,40 +32,50 @@ foreground-at-requires c κs = search needs
 separator-requires : tie.Need-separator-requires
 separator-requires c κs = search needs
 
-push-requires : tie.Need-push-requires
-push-requires c κs = search needs
+slice-write-into : tie.Need-slice-write-into
+slice-write-into c = search needs
 
-array-read-push : tie.Need-array-read-push
-array-read-push c = search needs
+array-read-into : tie.Need-array-read-into
+array-read-into c = search needs
 
-push-requires-2 : tie.Need-push-requires-2
-push-requires-2 c κs = search needs
+add-into : tie.Need-add-into
+add-into c = search needs
 
-add-push : tie.Need-add-push
-add-push c = search needs
+slice-write-into-2 : tie.Need-slice-write-into-2
+slice-write-into-2 c =
+    let s = c .before .before .before .before .before .before in
+    omega (arith, s .pre, length-set (s .args .into .now) (s .args .n) (c .separator .result))
 
-array-read-push-2 : tie.Need-array-read-push-2
-array-read-push-2 c = search needs
+add-into-2 : tie.Need-add-into-2
+add-into-2 c = search needs
 
-push-requires-3 : tie.Need-push-requires-3
-push-requires-3 c κs = search needs
+array-read-into-2 : tie.Need-array-read-into-2
+array-read-into-2 c = search needs
+
+add-into-3 : tie.Need-add-into-3
+add-into-3 c = search needs
+
+slice-write-into-3 : tie.Need-slice-write-into-3
+slice-write-into-3 c =
+    let s = c .before .before .before .before .before .before in
+    let d = set (s .args .into .now) (s .args .n) (c .separator .result) in
+    omega (arith, s .pre, length-set (s .args .into .now) (s .args .n) (c .separator .result), length-set d (s .args .n + 1) (getD foregrounds (c .before .foreground-at .result) 0))
+
+add-result : tie.Need-add-result
+add-result c = search needs
+
+same-length : tie.Need-same-length
+same-length c = search needs
 
 returns-2 : tie.Need-returns-2
 returns-2 c =
-    let s = c .before .before .before .before .before .before .before .before in
-    let p = s .args .p in
-    let x = c .before .before .push in
-    let y = c .before .push2 in
-    let z = c .push3 in
-    let i = c .before .before .before .before .foreground-at in
-    let k = c .before .before .before .before .before .before .ink in (
-      z .ensures .0
-          ∙ ap (λ (l : List ℕ). l ++ getD foregrounds (i .result + 1) 0 ∷ []) (y .ensures .0 ∙ ap (λ (l : List ℕ). l ++ getD foregrounds (i .result) 0 ∷ []) (x .ensures .0))
-          ∙ ap (λ (n : ℕ). ((written p ++ c .before .before .before .separator .result ∷ []) ++ getD foregrounds n 0 ∷ []) ++ getD foregrounds (n + 1) 0 ∷ []) (i .ensures .0)
-          ∙ ink-code (written p) (c .before .before .before .separator .result) (k .given .0 .0)
-          ∙ ap (λ (b : ℕ). written p ++ joined b (inkCodes (Inked (k .given .0 .0)))) (c .before .before .before .separator .ensures)
-          ∙ ap (λ (j : Ink). written p ++ joined (between (p .len)) (inkCodes j)) (sym (k .given .1)),
-      (z .ensures .1 .0, (omega (arith, x .ensures .1, y .ensures .1, z .ensures .1), omega (arith, x .ensures .1, y .ensures .1, z .ensures .1))),
+    let s = c .before .before .before .before .before .before in
+    let f = take (s .args .n) (s .args .into .now) in
+    let i = c .before .foreground-at in
+    let k = c .before .before .before .ink in (
+      ink-code (s .args .into .now) (s .args .n) (c .separator .result) (i .result) (k .given .0 .0) (s .pre) (c .separator .ensures) (i .ensures .0)
+          ∙ ap (λ (j : Ink). f ++ joined (between (s .args .n)) (inkCodes j)) (sym (k .given .1)),
+      (omega arith, omega arith),
     )
 
 pub with-ink-spec : {M : Type 1} → statement M
@@ -77,10 +87,14 @@ with-ink-spec =
     returns
     foreground-at-requires
     separator-requires
-    push-requires
-    array-read-push
-    push-requires-2
-    add-push
-    array-read-push-2
-    push-requires-3
+    slice-write-into
+    array-read-into
+    add-into
+    slice-write-into-2
+    add-into-2
+    array-read-into-2
+    add-into-3
+    slice-write-into-3
+    add-result
+    same-length
     returns-2)

@@ -1,5 +1,6 @@
 -- `fields::wordings::wording_of` meets its contract. Assumes nothing.
 use borrow.Author.Needs.{needs}
+use native.Mathlib.Omega.{arith}
 use mathlib.Core.Path.{ap, _∙_}
 use Rattle.fields.proofs.Texts.{line-shown, message-shown, level-shown, worded-as}
 use Rattle.fields.specs.Levels.{nameOf}
@@ -14,6 +15,9 @@ build-crate-name-requires c κs = search needs
 
 enum-known-m : tie.Need-enum-known-m
 enum-known-m c = search needs
+
+cast-build-file-name : tie.Need-cast-build-file-name
+cast-build-file-name c = omega arith
 
 build-file-name-requires : tie.Need-build-file-name-requires
 build-file-name-requires c κs = search needs
@@ -98,6 +102,7 @@ wording-of-spec =
     enum-told
     build-crate-name-requires
     enum-known-m
+    cast-build-file-name
     build-file-name-requires
     enum-told-2
     build-file-path-requires

@@ -1,6 +1,7 @@
--- `line::measuring::join_of`, `line::measuring::raw_of`, `line::measuring::seg_of` meet their contracts. Assumes nothing.
-use Prim.Native.Nat.{ℕ, _+_, _-_, _*_, _<_}
-use mathlib.Core.Path.{_≡_, sym, ap, subst, _∙_}
+-- `line::measuring::join_of`, `line::measuring::raw_of`, `line::measuring::seg_of` meet their contracts. The loop's invariant: j is a link on the way back
+-- from l, and the members back from j are measured. Assumes nothing.
+use Prim.Native.Nat.{ℕ, _+_, _-_, _*_, _≤_, _<_}
+use mathlib.Core.Path.{_≡_, refl, sym, ap, subst, _∙_}
 use mathlib.Core.List.{_++_}
 use mathlib.Core.Bool.{false}
 use native.Mathlib.Omega.{arith}
@@ -13,10 +14,12 @@ use Rattle.measure.specs.declared.Measure.{Measure}
 use Rattle.measure.specs.Measures.{grown, Small}
 use Rattle.measure.proofs.Measured.{small-grown}
 use Rattle.segments.specs.Pool.{segmentAt, chainAt}
+use Rattle.line.specs.Links.{OnChain}
 use Rattle.line.specs.Places.{recordBy, sourceBy}
 use Rattle.line.specs.Texts.{segmentText, segmentsText, rawText, isBare}
 use Rattle.line.specs.Rows.{rowAt}
-use Rattle.line.proofs.Segments.{raw-of-text, raw-of-members, raw-of-specifier, members-length, measured-none, measured-step}
+use Rattle.line.proofs.Linking.{on-end, member-room}
+use Rattle.line.proofs.Segments.{raw-of-text, raw-of-members, raw-of-specifier, measured-none, measured-step}
 use Rattle.line.proofs.Framing.{opening, Framed, bare-text, framed, framed-length, open-length, frame-walked}
 use Rattle.line.proofs.Tables.{readable-less, tabled-less}
 use Rattle.line.proofs.measuring.+join_of+raw_of+seg_of.{statement}
@@ -32,11 +35,11 @@ use Rattle.line.proofs.measuring.seg_of.Kinds as seg-of-kinds
 use Rattle.line.proofs.measuring.+join_of+raw_of+seg_of.Lts-seg_of as seg-of-lts
 use Rattle.line.proofs.leaves.add_field.Reads as add-field-reads
 use Rattle.line.proofs.leaves.add_text.Reads as add-text-reads
+use Rattle.line.proofs.members.member_after.Reads as member-after-reads
 use Rattle.line.proofs.segment.frame_at.Reads as frame-at-reads
 use Rattle.line.proofs.segment.is_bare.Reads as is-bare-reads
 use Rattle.measure.proofs.framing.closed.Reads as closed-reads
 use Rattle.measure.proofs.framing.opened.Reads as opened-reads
-use Rattle.segments.proofs.pool.back_at.Reads as back-at-reads
 use Rattle.segments.proofs.pool.kind_at.Reads as kind-at-reads
 use Rattle.segments.proofs.pool.last_at.Reads as last-at-reads
 
@@ -68,7 +71,7 @@ abbrev seg-of-below : ℕ → In 5 seg-of-kinds.ps
 seg-of-below t = and 5 seg-of-kinds.ps (falls 5 seg-of-kinds.ps _<_ μ-seg-of t) seg-of.Pre
 
 abbrev join-of-calls : ℕ → join-of-lts.Claims
-join-of-calls t = (back-at-reads.Asked, back-at-reads.Learnt, join-of-below t, join-of.Post, seg-of-below t, seg-of.Post)
+join-of-calls t = (member-after-reads.Asked, member-after-reads.Learnt, seg-of-below t, seg-of.Post)
 
 abbrev raw-of-calls : ℕ → raw-of-lts.Claims
 raw-of-calls t = (kind-at-reads.Asked, kind-at-reads.Learnt, add-text-reads.Asked, add-text-reads.Learnt, last-at-reads.Asked, last-at-reads.Learnt, join-of-below t, join-of.Post, add-field-reads.Asked, add-field-reads.Learnt)
@@ -76,36 +79,43 @@ raw-of-calls t = (kind-at-reads.Asked, kind-at-reads.Learnt, add-text-reads.Aske
 abbrev seg-of-calls : ℕ → seg-of-lts.Claims
 seg-of-calls t = (is-bare-reads.Asked, is-bare-reads.Learnt, raw-of-below t, raw-of.Post, frame-at-reads.Asked, frame-at-reads.Learnt, opened-reads.Asked, opened-reads.Learnt, closed-reads.Asked, closed-reads.Learnt)
 
-join-of-returns : (t : ℕ) → join-of-lts.Need-returns (join-of-calls t) (join-of-at t) join-of.Post
-join-of-returns t c = let p = c .before .before .before .before .before .before in let s = p .args .s in let t₀ = p .args .t .now in let d = p .args .d .now in let n = p .args .numbers .now in let cells = p .args .cells .now in let r = recordBy n d in
-    let l = p .args .l in let a = p .args .a in
-    measured-none s t₀ r cells l a (c .if1 .taken)
+abbrev join-of-Inv-loop : join-of-lts.InvT-loop
+join-of-Inv-loop cells table t d numbers s l b₀ j₀ b j = ((j ≤ l) × OnChain cells l j) × (b ≡ grown b₀ (segmentsText s t (recordBy numbers d) (chainAt cells j)))
 
-join-of-sub-i : (t : ℕ) → join-of-lts.Need-sub-i (join-of-calls t) (join-of-at t) join-of.Post
-join-of-sub-i t c = omega (arith, c .if1 .left)
+abbrev join-of-μ-loop : join-of-lts.MeasureT-loop
+join-of-μ-loop cells table t d numbers s l b₀ j₀ b j = l - j
 
-join-of-back-at-requires : (t : ℕ) → join-of-lts.Need-back-at-requires (join-of-calls t) (join-of-at t) join-of.Post
-join-of-back-at-requires t c κs = let p = c .before .before .before .before .before .before in
-    (p .pre .1 .0 .pool, omega (arith, p .pre .1 .0 .few, c .if1 .left))
+join-of-loop-holds : (t : ℕ) → join-of-lts.Need-loop-holds (join-of-calls t) (join-of-at t) join-of.Post join-of-Inv-loop join-of-μ-loop
+join-of-loop-holds t c = let p = c .before .before .before .before .before in let s = p .args .s in let t₀ = p .args .t .now in let d = p .args .d .now in let n = p .args .numbers .now in let cells = p .args .cells .now in let r = recordBy n d in
+    ((omega arith, on-end cells (p .args .l)), measured-none s t₀ r cells 0 (p .args .a) refl)
 
-join-of-join-of-requires : (t : ℕ) → join-of-lts.Need-join-of-requires (join-of-calls t) (join-of-at t) join-of.Post
-join-of-join-of-requires t c κs = let p = c .before .before .before .before .before .before .before in let s = p .args .s in let t₀ = p .args .t .now in let d = p .args .d .now in let n = p .args .numbers .now in let cells = p .args .cells .now in let table = p .args .table .now in let r = recordBy n d in
-    let l = p .args .l in
-    let e : l ≡ l - 1 + 1 = omega (arith, c .before .if1 .left) in let ml = members-length s t₀ r cells l (l - 1) (c .back-at .result) e (c .back-at .ensures .0) in
-    (omega (arith, p .pre .0, c .back-at .ensures .1, c .before .if1 .left), (readable-less cells d n l (c .back-at .result) (omega (arith, c .back-at .ensures .1)) (p .pre .1 .0), (tabled-less s t₀ r cells table l (c .back-at .result) (omega (arith, c .back-at .ensures .1)) (p .pre .1 .1 .0), ((p .pre .1 .1 .1 .0), omega (arith, p .pre .1 .1 .1 .1)))))
+join-of-member-after-requires : (t : ℕ) → join-of-lts.Need-member-after-requires (join-of-calls t) (join-of-at t) join-of.Post join-of-Inv-loop join-of-μ-loop
+join-of-member-after-requires t c κs = let p = c .before .before .before .before .before .before .before in
+    ((p .pre .1 .0 .pool, p .pre .1 .0 .few), (c .before .loop .inv .0 .1, c .loop-test .taken))
 
-join-of-seg-of-requires : (t : ℕ) → join-of-lts.Need-seg-of-requires (join-of-calls t) (join-of-at t) join-of.Post
+join-of-sub-seg-of : (t : ℕ) → join-of-lts.Need-sub-seg-of (join-of-calls t) (join-of-at t) join-of.Post join-of-Inv-loop join-of-μ-loop
+join-of-sub-seg-of t c = omega (arith, c .member-after .ensures .0 .0)
+
+join-of-seg-of-requires : (t : ℕ) → join-of-lts.Need-seg-of-requires (join-of-calls t) (join-of-at t) join-of.Post join-of-Inv-loop join-of-μ-loop
 join-of-seg-of-requires t c κs = let p = c .before .before .before .before .before .before .before .before in let s = p .args .s in let t₀ = p .args .t .now in let d = p .args .d .now in let n = p .args .numbers .now in let cells = p .args .cells .now in let table = p .args .table .now in let r = recordBy n d in
-    let l = p .args .l in let a = p .args .a in
-    let e : l ≡ l - 1 + 1 = omega (arith, c .before .before .if1 .left) in let ml = members-length s t₀ r cells l (l - 1) (c .before .back-at .result) e (c .before .back-at .ensures .0) in
-    let je : c .join-of .result ≡ grown a (segmentsText s t₀ r (chainAt cells (c .before .back-at .result))) = c .join-of .ensures in
-    (omega (arith, p .pre .0, c .before .before .if1 .left), (readable-less cells d n l (l - 1 + 1) (omega arith) (p .pre .1 .0), (tabled-less s t₀ r cells table l (l - 1 + 1) (omega arith) (p .pre .1 .1 .0), (subst Small (sym je) (small-grown a (segmentsText s t₀ r (chainAt cells (c .before .back-at .result))) (p .pre .1 .1 .1 .0)), omega (arith, p .pre .1 .1 .1 .1, ap (λ (y : Measure). y .len) je)))))
+    let l = p .args .l in let a = p .args .a in let j = c .before .before .loop .j in let k = c .member-after .result in let h = c .member-after .ensures in
+    let be : c .before .before .loop .b ≡ grown a (segmentsText s t₀ r (chainAt cells j)) = c .before .before .loop .inv .1 in
+    let m = member-room cells s t₀ r l j k (h .0 .0) (h .1 .0) (h .1 .1) in
+    (omega (arith, p .pre .0, h .0 .0, h .0 .1), (readable-less cells d n l (k - 1 + 1) (omega (arith, h .0 .0, h .0 .1)) (p .pre .1 .0), (tabled-less s t₀ r cells table l (k - 1 + 1) (omega (arith, h .0 .0, h .0 .1)) (p .pre .1 .1 .0), (subst Small (sym be) (small-grown a (segmentsText s t₀ r (chainAt cells j)) (p .pre .1 .1 .1 .0)), omega (arith, p .pre .1 .1 .1 .1, ap (λ (y : Measure). y .len) be)))))
 
-join-of-returns-2 : (t : ℕ) → join-of-lts.Need-returns-2 (join-of-calls t) (join-of-at t) join-of.Post
-join-of-returns-2 t c = let p = c .before .before .before .before .before .before .before .before .before in let s = p .args .s in let t₀ = p .args .t .now in let d = p .args .d .now in let n = p .args .numbers .now in let cells = p .args .cells .now in let r = recordBy n d in
-    let l = p .args .l in let a = p .args .a in
-    let e : l ≡ l - 1 + 1 = omega (arith, c .before .before .before .if1 .left) in
-    measured-step s t₀ r cells l (l - 1) (c .before .before .back-at .result) a (c .before .join-of .result) (c .seg-of .result) e (c .before .before .back-at .ensures .0) (c .before .join-of .ensures) (c .seg-of .ensures)
+join-of-loop-less : (t : ℕ) → join-of-lts.Need-loop-less (join-of-calls t) (join-of-at t) join-of.Post join-of-Inv-loop join-of-μ-loop
+join-of-loop-less t c = omega (arith, c .before .member-after .ensures .0 .0, c .before .member-after .ensures .0 .1)
+
+join-of-loop-again : (t : ℕ) → join-of-lts.Need-loop-again (join-of-calls t) (join-of-at t) join-of.Post join-of-Inv-loop join-of-μ-loop
+join-of-loop-again t c = let p = c .before .before .before .before .before .before .before .before .before in let s = p .args .s in let t₀ = p .args .t .now in let d = p .args .d .now in let n = p .args .numbers .now in let cells = p .args .cells .now in let r = recordBy n d in
+    let b = c .before .before .before .loop in let k = c .before .member-after .result in let h = c .before .member-after .ensures in
+    let e : k ≡ k - 1 + 1 = omega (arith, h .0 .0) in
+    ((h .0 .1, h .1 .0), measured-step s t₀ r cells k (k - 1) (b .j) (p .args .a) (b .b) (c .seg-of .result) e (sym (h .1 .1)) (b .inv .1) (c .seg-of .ensures))
+
+join-of-returns : (t : ℕ) → join-of-lts.Need-returns (join-of-calls t) (join-of-at t) join-of.Post join-of-Inv-loop join-of-μ-loop
+join-of-returns t c = let p = c .before .before .before .before .before .before .before in let s = p .args .s in let t₀ = p .args .t .now in let d = p .args .d .now in let n = p .args .numbers .now in let cells = p .args .cells .now in let r = recordBy n d in
+    let e : c .before .loop .j ≡ p .args .l = omega (arith, c .before .loop .inv .0 .0, c .loop-test .left) in
+    c .before .loop .inv .1 ∙ ap (λ (j : ℕ). grown (p .args .a) (segmentsText s t₀ r (chainAt cells j))) e
 
 raw-of-kind-at-requires : (t : ℕ) → raw-of-lts.Need-kind-at-requires (raw-of-calls t) (raw-of-at t) raw-of.Post
 raw-of-kind-at-requires t c κs = let p = c .before .before .before .before .before in
@@ -217,12 +227,15 @@ seg-of-returns-2 t c = let p = c .before .before .before .before .before .before
 
 pub +join-of+raw-of+seg-of-spec : {M : Type 1} → statement M
 +join-of+raw-of+seg-of-spec = close μ-join-of μ-raw-of μ-seg-of (λ t. join-of-lts.spec (join-of-calls t) (join-of-at t) join-of.Post
-    (join-of-returns t)
-    (join-of-sub-i t)
-    (join-of-back-at-requires t)
-    (join-of-join-of-requires t)
+    join-of-Inv-loop
+    join-of-μ-loop
+    (join-of-loop-holds t)
+    (join-of-member-after-requires t)
+    (join-of-sub-seg-of t)
     (join-of-seg-of-requires t)
-    (join-of-returns-2 t))
+    (join-of-loop-less t)
+    (join-of-loop-again t)
+    (join-of-returns t))
     (λ t. raw-of-lts.spec (raw-of-calls t) (raw-of-at t) raw-of.Post
     (raw-of-kind-at-requires t)
     (raw-of-enum-told t)

@@ -5,7 +5,7 @@ use native.Mathlib.Omega.{arith}
 use lib.ListN.{length, set, length-set}
 use Rattle.line.specs.Places.{recordBy}
 use Rattle.line.specs.Rows.{Tabled}
-use Rattle.line.proofs.Tables.{readable-less, tabled-less, tabled-none, tabled-more}
+use Rattle.line.proofs.Tables.{readable-less, row-set-length, tabled-less, tabled-none, tabled-more}
 use Rattle.line.proofs.measuring.rows.Statement.{statement}
 use Rattle.line.proofs.measuring.rows.Tie as tie
 
@@ -49,7 +49,23 @@ mul-table-4 c = let p = c .before .before .before .before .before .before .befor
 
 slice-write-table-2 : tie.Need-slice-write-table-2 Inv-loop μ-loop
 slice-write-table-2 c = let p = c .before .before .before .before .before .before .before .before .before in
-    let l = c .before .before .before .loop in omega (arith, p .pre .1 .0, c .before .before .loop-test .taken, l .inv .1 .0, length-set (l .table) (2 * l .i) (c .row-for .result .padding))
+    let l = c .before .before .before .loop in omega (arith, p .pre .1 .0, c .before .before .loop-test .taken, l .inv .1 .0, length-set (l .table) (3 * l .i) (c .row-for .result .padding))
+
+mul-table-5 : tie.Need-mul-table-5 Inv-loop μ-loop
+mul-table-5 c = let p = c .before .before .before .before .before .before .before .before .before in
+    let l = c .before .before .before .loop in omega (arith, p .pre .1 .0, c .before .before .loop-test .taken, l .inv .1 .0)
+
+add-table-2 : tie.Need-add-table-2 Inv-loop μ-loop
+add-table-2 c = let p = c .before .before .before .before .before .before .before .before .before in
+    let l = c .before .before .before .loop in omega (arith, p .pre .1 .0, c .before .before .loop-test .taken, l .inv .1 .0)
+
+mul-table-6 : tie.Need-mul-table-6 Inv-loop μ-loop
+mul-table-6 c = let p = c .before .before .before .before .before .before .before .before .before in
+    let l = c .before .before .before .loop in omega (arith, p .pre .1 .0, c .before .before .loop-test .taken, l .inv .1 .0)
+
+slice-write-table-3 : tie.Need-slice-write-table-3 Inv-loop μ-loop
+slice-write-table-3 c = let p = c .before .before .before .before .before .before .before .before .before in
+    let l = c .before .before .before .loop in omega (arith, p .pre .1 .0, c .before .before .loop-test .taken, l .inv .1 .0, length-set (l .table) (3 * l .i) (c .row-for .result .padding), length-set (set (l .table) (3 * l .i) (c .row-for .result .padding)) (3 * l .i + 1) (c .row-for .result .inserted))
 
 add-i : tie.Need-add-i Inv-loop μ-loop
 add-i c = omega (arith, c .before .before .loop-test .taken)
@@ -62,7 +78,7 @@ loop-again c = let p = c .before .before .before .before .before .before .before
     let l = c .before .before .before .loop in (
       omega (arith, c .before .before .loop-test .taken),
       (
-        length-set (set (l .table) (2 * l .i) (c .row-for .result .padding)) (2 * l .i + 1) (c .row-for .result .inserted) ∙ length-set (l .table) (2 * l .i) (c .row-for .result .padding) ∙ l .inv .1 .0,
+        row-set-length (l .table) (l .i) (c .row-for .result) ∙ l .inv .1 .0,
         tabled-more s t₀ r cells (l .table) (l .i) (c .row-for .result) (omega (arith, p .pre .1 .0, c .before .before .loop-test .taken, l .inv .1 .0)) (l .inv .1 .1) (c .row-for .ensures),
       ),
     )
@@ -89,6 +105,10 @@ rows-spec =
     add-table
     mul-table-4
     slice-write-table-2
+    mul-table-5
+    add-table-2
+    mul-table-6
+    slice-write-table-3
     add-i
     loop-less
     loop-again

@@ -1,6 +1,6 @@
 -- `line::segment::row_at` meets its contract. Assumes nothing.
-use mathlib.Core.Path.{refl}
 use borrow.Author.Needs.{needs}
+use mathlib.Core.Path.{refl}
 use Rattle.line.specs.Rows.{rowAt}
 use Rattle.line.proofs.segment.row_at.Statement.{statement}
 use Rattle.line.proofs.segment.row_at.Tie as tie
@@ -26,6 +26,18 @@ mul-t9 c = search needs
 shared-slice-read-t11 : tie.Need-shared-slice-read-t11
 shared-slice-read-t11 c = search needs
 
+mul-t12 : tie.Need-mul-t12
+mul-t12 c = search needs
+
+add-t13 : tie.Need-add-t13
+add-t13 c = search needs
+
+mul-t14 : tie.Need-mul-t14
+mul-t14 c = search needs
+
+shared-slice-read-t16 : tie.Need-shared-slice-read-t16
+shared-slice-read-t16 c = search needs
+
 returns : tie.Need-returns
 unfolding rowAt
 returns c = refl
@@ -41,4 +53,8 @@ row-at-spec =
     add-t8
     mul-t9
     shared-slice-read-t11
+    mul-t12
+    add-t13
+    mul-t14
+    shared-slice-read-t16
     returns)

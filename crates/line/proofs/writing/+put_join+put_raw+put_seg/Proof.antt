@@ -1,6 +1,7 @@
--- `line::writing::put_join`, `line::writing::put_raw`, `line::writing::put_seg` meet their contracts. Assumes nothing.
-use Prim.Native.Nat.{ℕ, _+_, _-_, _*_, _<_}
-use mathlib.Core.Path.{_≡_, refl, sym, ap, _∙_}
+-- `line::writing::put_join`, `line::writing::put_raw`, `line::writing::put_seg` meet their contracts. The loop's invariant: j is a link on the way back
+-- from l, and the members back from j are written. Assumes nothing.
+use Prim.Native.Nat.{ℕ, _+_, _-_, _*_, _≤_, _<_}
+use mathlib.Core.Path.{_≡_, refl, sym, ap, subst, _∙_}
 use mathlib.Core.List.{List}
 use mathlib.Core.Bool.{false}
 use native.Mathlib.Omega.{arith}
@@ -13,11 +14,13 @@ use Rattle.text.specs.Buffer.{putAt}
 use Rattle.text.proofs.Writing.{part-put}
 use Rattle.colour.specs.Sequences.{reinserted}
 use Rattle.colour.specs.Looks.{prefix}
-use Rattle.segments.specs.Pool.{segmentAt}
+use Rattle.segments.specs.Pool.{segmentAt, chainAt}
+use Rattle.line.specs.Links.{OnChain}
 use Rattle.line.specs.Places.{recordBy, sourceBy}
-use Rattle.line.specs.Texts.{segmentText, rawText, isBare}
+use Rattle.line.specs.Texts.{segmentText, segmentsText, rawText, isBare}
 use Rattle.line.specs.Rows.{rowAt}
-use Rattle.line.proofs.Segments.{raw-of-text, raw-of-members, raw-of-specifier, members-length, written-none, written-step}
+use Rattle.line.proofs.Linking.{on-end, on-shorter, member-room}
+use Rattle.line.proofs.Segments.{raw-of-text, raw-of-members, raw-of-specifier, written-none, written-step}
 use Rattle.line.proofs.Framing.{opening, Framed, bare-text, framed, framed-length, inserted-none}
 use Rattle.line.proofs.Placing.{put-plain, ending-none, ending-four, dressed-place, put-dressed}
 use Rattle.line.proofs.Tables.{readable-less, tabled-less}
@@ -34,12 +37,12 @@ use Rattle.line.proofs.writing.put_seg.Kinds as put-seg-kinds
 use Rattle.line.proofs.writing.+put_join+put_raw+put_seg.Lts-put_seg as put-seg-lts
 use Rattle.line.proofs.leaves.put_field.Reads as put-field-reads
 use Rattle.line.proofs.leaves.put_text.Reads as put-text-reads
+use Rattle.line.proofs.members.member_after.Reads as member-after-reads
 use Rattle.line.proofs.segment.frame_at.Reads as frame-at-reads
 use Rattle.line.proofs.segment.is_bare.Reads as is-bare-reads
 use Rattle.dress.proofs.in_place.dress.Reads as dress-reads
 use Rattle.measure.proofs.padding.pad_byte.Reads as pad-byte-reads
 use Rattle.measure.proofs.prefix.prefix_len.Reads as prefix-len-reads
-use Rattle.segments.proofs.pool.back_at.Reads as back-at-reads
 use Rattle.segments.proofs.pool.kind_at.Reads as kind-at-reads
 use Rattle.segments.proofs.pool.last_at.Reads as last-at-reads
 use Rattle.text.proofs.buffer.fill.Reads as fill-reads
@@ -73,7 +76,7 @@ abbrev put-seg-below : ℕ → In 6 put-seg-kinds.ps
 put-seg-below t = and 6 put-seg-kinds.ps (falls 6 put-seg-kinds.ps _<_ μ-put-seg t) put-seg.Pre
 
 abbrev put-join-calls : ℕ → put-join-lts.Claims
-put-join-calls t = (back-at-reads.Asked, back-at-reads.Learnt, put-join-below t, put-join.Post, put-seg-below t, put-seg.Post)
+put-join-calls t = (member-after-reads.Asked, member-after-reads.Learnt, put-seg-below t, put-seg.Post)
 
 abbrev put-raw-calls : ℕ → put-raw-lts.Claims
 put-raw-calls t = (kind-at-reads.Asked, kind-at-reads.Learnt, put-text-reads.Asked, put-text-reads.Learnt, last-at-reads.Asked, last-at-reads.Learnt, put-join-below t, put-join.Post, put-field-reads.Asked, put-field-reads.Learnt)
@@ -81,38 +84,46 @@ put-raw-calls t = (kind-at-reads.Asked, kind-at-reads.Learnt, put-text-reads.Ask
 abbrev put-seg-calls : ℕ → put-seg-lts.Claims
 put-seg-calls t = (is-bare-reads.Asked, is-bare-reads.Learnt, put-raw-below t, put-raw.Post, frame-at-reads.Asked, frame-at-reads.Learnt, prefix-len-reads.Asked, prefix-len-reads.Learnt, pad-byte-reads.Asked, pad-byte-reads.Learnt, fill-reads.Asked, fill-reads.Learnt, dress-reads.Asked, dress-reads.Learnt)
 
-put-join-returns : (t : ℕ) → put-join-lts.Need-returns (put-join-calls t) (put-join-at t) put-join.Post
-put-join-returns t c = let p = c .before .before .before .before .before .before .before in let s = p .args .s in let t₀ = p .args .t .now in let d = p .args .d .now in let n = p .args .numbers .now in let cells = p .args .cells .now in let r = recordBy n d in let o = p .args .out .now in let at = p .args .at in
-    let l = p .args .l in
-    written-none s t₀ r cells l at o (c .if1 .taken)
+abbrev put-join-Inv-loop : put-join-lts.InvT-loop
+put-join-Inv-loop cells table t d numbers s l out₀ at b₀ j₀ out b j =
+    ((j ≤ l) × OnChain cells l j) × ((length out ≡ length out₀) × ((b ≡ at + length (segmentsText s t (recordBy numbers d) (chainAt cells j))) × (out ≡ putAt out₀ at (segmentsText s t (recordBy numbers d) (chainAt cells j)))))
 
-put-join-sub-i : (t : ℕ) → put-join-lts.Need-sub-i (put-join-calls t) (put-join-at t) put-join.Post
-put-join-sub-i t c = omega (arith, c .if1 .left)
+abbrev put-join-μ-loop : put-join-lts.MeasureT-loop
+put-join-μ-loop cells table t d numbers s l out₀ at b₀ j₀ out b j = l - j
 
-put-join-back-at-requires : (t : ℕ) → put-join-lts.Need-back-at-requires (put-join-calls t) (put-join-at t) put-join.Post
-put-join-back-at-requires t c κs = let p = c .before .before .before .before .before .before .before in
-    (p .pre .1 .0 .pool, omega (arith, p .pre .1 .0 .few, c .if1 .left))
+put-join-loop-holds : (t : ℕ) → put-join-lts.Need-loop-holds (put-join-calls t) (put-join-at t) put-join.Post put-join-Inv-loop put-join-μ-loop
+put-join-loop-holds t c = let p = c .before .before .before .before .before .before in let s = p .args .s in let t₀ = p .args .t .now in let d = p .args .d .now in let n = p .args .numbers .now in let cells = p .args .cells .now in let r = recordBy n d in let o = p .args .out .now in let at = p .args .at in
+    ((omega arith, on-end cells (p .args .l)), (refl, written-none s t₀ r cells 0 at o refl))
 
-put-join-put-join-requires : (t : ℕ) → put-join-lts.Need-put-join-requires (put-join-calls t) (put-join-at t) put-join.Post
-put-join-put-join-requires t c κs = let p = c .before .before .before .before .before .before .before .before .before in let s = p .args .s in let t₀ = p .args .t .now in let d = p .args .d .now in let n = p .args .numbers .now in let cells = p .args .cells .now in let table = p .args .table .now in let r = recordBy n d in
-    let l = p .args .l in
-    let e : l ≡ l - 1 + 1 = omega (arith, c .before .before .if1 .left) in let ml = members-length s t₀ r cells l (l - 1) (c .before .back-at .result) e (c .before .back-at .ensures .0) in
-    (omega (arith, p .pre .0, c .before .back-at .ensures .1, c .before .before .if1 .left), (readable-less cells d n l (c .before .back-at .result) (omega (arith, c .before .back-at .ensures .1)) (p .pre .1 .0), (tabled-less s t₀ r cells table l (c .before .back-at .result) (omega (arith, c .before .back-at .ensures .1)) (p .pre .1 .1 .0), omega (arith, p .pre .1 .1 .1))))
+put-join-member-after-requires : (t : ℕ) → put-join-lts.Need-member-after-requires (put-join-calls t) (put-join-at t) put-join.Post put-join-Inv-loop put-join-μ-loop
+put-join-member-after-requires t c κs = let p = c .before .before .before .before .before .before .before .before in
+    ((p .pre .1 .0 .pool, p .pre .1 .0 .few), (c .before .loop .inv .0 .1, c .loop-test .taken))
 
-put-join-put-seg-requires : (t : ℕ) → put-join-lts.Need-put-seg-requires (put-join-calls t) (put-join-at t) put-join.Post
-put-join-put-seg-requires t c κs = let p = c .before .before .before .before .before .before .before .before .before .before .before .before .before in let s = p .args .s in let t₀ = p .args .t .now in let d = p .args .d .now in let n = p .args .numbers .now in let cells = p .args .cells .now in let table = p .args .table .now in let r = recordBy n d in
-    let l = p .args .l in
-    let e : l ≡ l - 1 + 1 = omega (arith, c .before .before .before .before .before .before .if1 .left) in let ml = members-length s t₀ r cells l (l - 1) (c .before .before .before .before .before .back-at .result) e (c .before .before .before .before .before .back-at .ensures .0) in
-    (omega (arith, p .pre .0, c .before .before .before .before .before .before .if1 .left), (readable-less cells d n l (l - 1 + 1) (omega arith) (p .pre .1 .0), (tabled-less s t₀ r cells table l (l - 1 + 1) (omega arith) (p .pre .1 .1 .0), omega (arith, p .pre .1 .1 .1, c .before .before .before .put-join .ensures .0, c .before .before .before .put-join .kept .1 .1 .1 .1 .1 .1 .1 .0))))
+put-join-sub-put-seg : (t : ℕ) → put-join-lts.Need-sub-put-seg (put-join-calls t) (put-join-at t) put-join.Post put-join-Inv-loop put-join-μ-loop
+put-join-sub-put-seg t c = omega (arith, c .member-after .ensures .0 .0)
 
-put-join-same-length : (t : ℕ) → put-join-lts.Need-same-length (put-join-calls t) (put-join-at t) put-join.Post
+put-join-put-seg-requires : (t : ℕ) → put-join-lts.Need-put-seg-requires (put-join-calls t) (put-join-at t) put-join.Post put-join-Inv-loop put-join-μ-loop
+put-join-put-seg-requires t c κs = let p = c .before .before .before .before .before .before .before .before .before .before in let s = p .args .s in let t₀ = p .args .t .now in let d = p .args .d .now in let n = p .args .numbers .now in let cells = p .args .cells .now in let table = p .args .table .now in let r = recordBy n d in
+    let l = p .args .l in let b = c .before .before .before .loop in let k = c .before .member-after .result in let h = c .before .member-after .ensures in
+    let m = member-room cells s t₀ r l (b .j) k (h .0 .0) (h .1 .0) (h .1 .1) in
+    (omega (arith, p .pre .0, h .0 .0, h .0 .1), (readable-less cells d n l (k - 1 + 1) (omega (arith, h .0 .0, h .0 .1)) (p .pre .1 .0), (tabled-less s t₀ r cells table l (k - 1 + 1) (omega (arith, h .0 .0, h .0 .1)) (p .pre .1 .1 .0), omega (arith, p .pre .1 .1 .1, b .inv .1 .0, b .inv .1 .1 .0))))
+
+put-join-loop-less : (t : ℕ) → put-join-lts.Need-loop-less (put-join-calls t) (put-join-at t) put-join.Post put-join-Inv-loop put-join-μ-loop
+put-join-loop-less t c = omega (arith, c .before .before .before .before .member-after .ensures .0 .0, c .before .before .before .before .member-after .ensures .0 .1)
+
+put-join-loop-again : (t : ℕ) → put-join-lts.Need-loop-again (put-join-calls t) (put-join-at t) put-join.Post put-join-Inv-loop put-join-μ-loop
+put-join-loop-again t c = let p = c .before .before .before .before .before .before .before .before .before .before .before .before .before in let s = p .args .s in let t₀ = p .args .t .now in let d = p .args .d .now in let n = p .args .numbers .now in let cells = p .args .cells .now in let r = recordBy n d in let o = p .args .out .now in let at = p .args .at in
+    let l = p .args .l in let b = c .before .before .before .before .before .before .loop in let k = c .before .before .before .before .member-after .result in let h = c .before .before .before .before .member-after .ensures in let w = c .before .before .put-seg in
+    let e : k ≡ k - 1 + 1 = omega (arith, h .0 .0) in
+    ((h .0 .1, h .1 .0), (w .kept .1 .1 .1 .1 .1 .1 .1 .0 ∙ b .inv .1 .0, written-step s t₀ r cells k (k - 1) (b .j) at (b .b) (w .result) o (b .out) (w .last .1 .1 .1 .1 .1 .1 .1 .0) e (sym (h .1 .1)) (b .inv .1 .1 .0) (b .inv .1 .1 .1) (w .ensures .0) (w .ensures .1) (omega (arith, p .pre .1 .1 .1, on-shorter cells s t₀ r l k (h .1 .0)))))
+
+put-join-same-length : (t : ℕ) → put-join-lts.Need-same-length (put-join-calls t) (put-join-at t) put-join.Post put-join-Inv-loop put-join-μ-loop
 put-join-same-length t c = search needs
 
-put-join-returns-2 : (t : ℕ) → put-join-lts.Need-returns-2 (put-join-calls t) (put-join-at t) put-join.Post
-put-join-returns-2 t c = let p = c .before .before .before .before .before .before .before .before .before .before .before .before .before .before .before .before in let s = p .args .s in let t₀ = p .args .t .now in let d = p .args .d .now in let n = p .args .numbers .now in let cells = p .args .cells .now in let r = recordBy n d in let o = p .args .out .now in let at = p .args .at in
-    let l = p .args .l in
-    let e : l ≡ l - 1 + 1 = omega (arith, c .before .before .before .before .before .before .before .before .before .if1 .left) in
-    written-step s t₀ r cells l (l - 1) (c .before .before .before .before .before .before .before .before .back-at .result) at (c .before .before .before .before .before .before .put-join .result) (c .before .before .put-seg .result) o (c .before .before .before .before .before .before .put-join .last .1 .1 .1 .1 .1 .1 .1 .0) (c .before .before .put-seg .last .1 .1 .1 .1 .1 .1 .1 .0) e (c .before .before .before .before .before .before .before .before .back-at .ensures .0) (c .before .before .before .before .before .before .put-join .ensures .0) (c .before .before .before .before .before .before .put-join .ensures .1) (c .before .before .put-seg .ensures .0) (c .before .before .put-seg .ensures .1) (p .pre .1 .1 .1)
+put-join-returns : (t : ℕ) → put-join-lts.Need-returns (put-join-calls t) (put-join-at t) put-join.Post put-join-Inv-loop put-join-μ-loop
+put-join-returns t c = let p = c .before .before .before .before .before .before .before .before in let s = p .args .s in let t₀ = p .args .t .now in let d = p .args .d .now in let n = p .args .numbers .now in let cells = p .args .cells .now in let r = recordBy n d in let o = p .args .out .now in let at = p .args .at in
+    let b = c .before .loop in let e : b .j ≡ p .args .l = omega (arith, b .inv .0 .0, c .loop-test .left) in
+    subst (λ (j : ℕ). (b .b ≡ at + length (segmentsText s t₀ r (chainAt cells j))) × (b .out ≡ putAt o at (segmentsText s t₀ r (chainAt cells j)))) e (b .inv .1 .1)
 
 put-raw-kind-at-requires : (t : ℕ) → put-raw-lts.Need-kind-at-requires (put-raw-calls t) (put-raw-at t) put-raw.Post
 put-raw-kind-at-requires t c κs = let p = c .before .before .before .before .before .before in
@@ -298,13 +309,16 @@ put-seg-returns-3 t c = let p = c .before .before .before .before .before .befor
 
 pub +put-join+put-raw+put-seg-spec : {M : Type 1} → statement M
 +put-join+put-raw+put-seg-spec = close μ-put-join μ-put-raw μ-put-seg (λ t. put-join-lts.spec (put-join-calls t) (put-join-at t) put-join.Post
-    (put-join-returns t)
-    (put-join-sub-i t)
-    (put-join-back-at-requires t)
-    (put-join-put-join-requires t)
+    put-join-Inv-loop
+    put-join-μ-loop
+    (put-join-loop-holds t)
+    (put-join-member-after-requires t)
+    (put-join-sub-put-seg t)
     (put-join-put-seg-requires t)
+    (put-join-loop-less t)
+    (put-join-loop-again t)
     (put-join-same-length t)
-    (put-join-returns-2 t))
+    (put-join-returns t))
     (λ t. put-raw-lts.spec (put-raw-calls t) (put-raw-at t) put-raw.Post
     (put-raw-kind-at-requires t)
     (put-raw-enum-told t)

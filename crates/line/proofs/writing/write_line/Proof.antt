@@ -1,14 +1,13 @@
 -- `line::writing::write_line` meets its contract. Assumes nothing.
-use mathlib.Core.Path.{_≡_, sym, ap, subst, _∙_}
+use mathlib.Core.Path.{_≡_, sym, _∙_}
 use native.Mathlib.Omega.{arith}
 use borrow.Author.Needs.{needs}
-use Rattle.measure.specs.declared.Measure.{Measure}
-use Rattle.measure.specs.Measures.{nothing, grown, Small}
-use Rattle.measure.proofs.Measured.{small-nothing}
+use lib.ListN.{length}
 use Rattle.segments.specs.Pool.{chainAt}
 use Rattle.line.specs.Places.{recordBy}
 use Rattle.line.specs.Texts.{segmentsText}
 use Rattle.line.proofs.Bound.{countable, line-counted}
+use Rattle.line.proofs.Lengths.{lengths-told}
 use Rattle.line.proofs.Placing.{written-short, written-whole}
 use Rattle.line.proofs.writing.write_line.Statement.{statement}
 use Rattle.line.proofs.writing.write_line.Tie as tie
@@ -20,35 +19,33 @@ rows-requires : tie.Need-rows-requires
 rows-requires c κs = let p = c .before .before .before .before .before .before in let s = p .args .s in let t₀ = p .args .t .now in let d = p .args .d .now in let n = p .args .numbers .now in let cells = p .args .cells .now in
     (p .pre .readable, (omega (arith, p .pre .readable .few), countable s cells t₀ d n (p .args .n) (p .pre)))
 
-slice-aggregate-join-of : tie.Need-slice-aggregate-join-of
-slice-aggregate-join-of c = search needs
+slice-aggregate-members-len : tie.Need-slice-aggregate-members-len
+slice-aggregate-members-len c = search needs
 
-none-requires : tie.Need-none-requires
-none-requires c κs = search needs
-
-join-of-requires : tie.Need-join-of-requires
-join-of-requires c κs = let p = c .before .before .before .before .before .before .before .before .before .before in let s = p .args .s in let t₀ = p .args .t .now in let d = p .args .d .now in let n = p .args .numbers .now in let cells = p .args .cells .now in
-    (p .pre .readable, (c .before .before .before .rows .ensures, (subst Small (sym (c .none .ensures)) small-nothing, omega (arith, line-counted s cells t₀ d n (p .args .n) (p .pre), ap (λ (y : Measure). y .len) (c .none .ensures)))))
+members-len-requires : tie.Need-members-len-requires
+members-len-requires c κs = let p = c .before .before .before .before .before .before .before .before .before in let s = p .args .s in let t₀ = p .args .t .now in let d = p .args .d .now in let n = p .args .numbers .now in let cells = p .args .cells .now in
+    let o = c .before .before .rows .ensures in
+    ((p .pre .readable .pool, (p .pre .readable .few, o .room)), omega (arith, line-counted s cells t₀ d n (p .args .n) (p .pre), lengths-told cells _ s t₀ (recordBy n d) (p .args .n) o))
 
 returns : tie.Need-returns
-returns c = let p = c .before .before .before .before .before .before .before .before .before .before .before .before .before in let s = p .args .s in let t₀ = p .args .t .now in let d = p .args .d .now in let n = p .args .numbers .now in let cells = p .args .cells .now in let x = segmentsText s t₀ (recordBy n d) (chainAt cells (p .args .n)) in
-    let xe : c .before .before .join-of .result ≡ grown nothing x = c .before .before .join-of .ensures ∙ ap (λ (y : Measure). grown y x) (c .before .before .before .none .ensures) in let xl = ap (λ (y : Measure). y .len) xe in
-    (omega arith, sym (written-short (p .args .out .now) x (omega (arith, c .if1 .taken))))
+returns c = let p = c .before .before .before .before .before .before .before .before .before .before .before in let s = p .args .s in let t₀ = p .args .t .now in let d = p .args .d .now in let n = p .args .numbers .now in let cells = p .args .cells .now in let x = segmentsText s t₀ (recordBy n d) (chainAt cells (p .args .n)) in
+    let xl : c .before .members-len .result ≡ length x = c .before .members-len .ensures ∙ lengths-told cells _ s t₀ (recordBy n d) (p .args .n) (c .before .before .before .before .rows .ensures) in
+    (xl, sym (written-short (p .args .out .now) x (omega (arith, c .if1 .taken))))
 
 slice-aggregate-put-join : tie.Need-slice-aggregate-put-join
 slice-aggregate-put-join c = search needs
 
 put-join-requires : tie.Need-put-join-requires
-put-join-requires c κs = let p = c .before .before .before .before .before .before .before .before .before .before .before .before .before .before .before in let s = p .args .s in let t₀ = p .args .t .now in let d = p .args .d .now in let n = p .args .numbers .now in let cells = p .args .cells .now in let x = segmentsText s t₀ (recordBy n d) (chainAt cells (p .args .n)) in
-    let xe : c .before .before .before .before .join-of .result ≡ grown nothing x = c .before .before .before .before .join-of .ensures ∙ ap (λ (y : Measure). grown y x) (c .before .before .before .before .before .none .ensures) in let xl = ap (λ (y : Measure). y .len) xe in
-    (p .pre .readable, (c .before .before .before .before .before .before .before .before .rows .ensures, omega (arith, c .before .before .if1 .left)))
+put-join-requires c κs = let p = c .before .before .before .before .before .before .before .before .before .before .before .before .before in let s = p .args .s in let t₀ = p .args .t .now in let d = p .args .d .now in let n = p .args .numbers .now in let cells = p .args .cells .now in let x = segmentsText s t₀ (recordBy n d) (chainAt cells (p .args .n)) in
+    let xl : c .before .before .before .members-len .result ≡ length x = c .before .before .before .members-len .ensures ∙ lengths-told cells _ s t₀ (recordBy n d) (p .args .n) (c .before .before .before .before .before .before .rows .ensures) in
+    (p .pre .readable, (c .before .before .before .before .before .before .rows .ensures, omega (arith, c .before .before .if1 .left)))
 
 same-length : tie.Need-same-length
 same-length c = search needs
 
 returns-2 : tie.Need-returns-2
-returns-2 c = let p = c .before .before .before .before .before .before .before .before .before .before .before .before .before .before .before .before .before .before in let s = p .args .s in let t₀ = p .args .t .now in let d = p .args .d .now in let n = p .args .numbers .now in let cells = p .args .cells .now in let x = segmentsText s t₀ (recordBy n d) (chainAt cells (p .args .n)) in
-    let xe : c .before .before .before .before .before .before .before .join-of .result ≡ grown nothing x = c .before .before .before .before .before .before .before .join-of .ensures ∙ ap (λ (y : Measure). grown y x) (c .before .before .before .before .before .before .before .before .none .ensures) in let xl = ap (λ (y : Measure). y .len) xe in
+returns-2 c = let p = c .before .before .before .before .before .before .before .before .before .before .before .before .before .before .before .before in let s = p .args .s in let t₀ = p .args .t .now in let d = p .args .d .now in let n = p .args .numbers .now in let cells = p .args .cells .now in let x = segmentsText s t₀ (recordBy n d) (chainAt cells (p .args .n)) in
+    let xl : c .before .before .before .before .before .before .members-len .result ≡ length x = c .before .before .before .before .before .before .members-len .ensures ∙ lengths-told cells _ s t₀ (recordBy n d) (p .args .n) (c .before .before .before .before .before .before .before .before .before .rows .ensures) in
     (omega (arith, c .before .before .put-join .ensures .0), c .before .before .put-join .ensures .1 ∙ sym (written-whole (p .args .out .now) x (omega (arith, c .before .before .before .before .before .if1 .left))))
 
 pub write-line-spec : {M : Type 1} → statement M
@@ -57,9 +54,8 @@ write-line-spec =
     (tie.spec
     slice-aggregate-rows
     rows-requires
-    slice-aggregate-join-of
-    none-requires
-    join-of-requires
+    slice-aggregate-members-len
+    members-len-requires
     returns
     slice-aggregate-put-join
     put-join-requires

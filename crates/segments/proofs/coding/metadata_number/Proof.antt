@@ -1,8 +1,11 @@
 -- `segments::coding::metadata_number` meets its contract. Assumes nothing.
 use borrow.Author.Needs.{needs}
-use mathlib.Core.Path.{sym, ap}
+use native.Mathlib.Omega.{arith}
+use mathlib.Core.Path.{sym, ap, _∙_}
+use Rattle.words.specs.declared.LogMetadata.{LogMetadata}
 use Rattle.segments.specs.Pool.{entry}
 use Rattle.segments.specs.declared.Kind.{Kind}
+use Rattle.segments.proofs.Codes.{count-back}
 use Rattle.segments.proofs.coding.metadata_number.Statement.{statement}
 use Rattle.segments.proofs.coding.metadata_number.Tie as tie
 
@@ -11,6 +14,9 @@ enum-told c = search needs
 
 enum-known-m : tie.Need-enum-known-m
 enum-known-m c = search needs
+
+cast-t4 : tie.Need-cast-t4
+cast-t4 c = search needs
 
 enum-told-2 : tie.Need-enum-told-2
 enum-told-2 c = search needs
@@ -36,7 +42,7 @@ returns c = ap Kind.Specifier (sym (c .enum-told .given .1))
 
 returns-2 : tie.Need-returns-2
 unfolding entry
-returns-2 c = ap Kind.Specifier (sym (c .before .m .given .1))
+returns-2 c = ap Kind.Specifier (ap LogMetadata.FileName (count-back _ (omega arith)) ∙ sym (c .before .m .given .1))
 
 returns-3 : tie.Need-returns-3
 unfolding entry
@@ -68,6 +74,7 @@ metadata-number-spec =
     (tie.spec
     enum-told
     enum-known-m
+    cast-t4
     enum-told-2
     enum-told-3
     enum-told-4

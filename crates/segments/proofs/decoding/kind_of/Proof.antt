@@ -7,6 +7,9 @@ use Rattle.segments.proofs.Codes.{entry-past, above}
 use Rattle.segments.proofs.decoding.kind_of.Statement.{statement}
 use Rattle.segments.proofs.decoding.kind_of.Tie as tie
 
+cast-t12 : tie.Need-cast-t12
+cast-t12 c = omega arith
+
 returns : tie.Need-returns
 unfolding entry
 returns c = sym (ap (entry Kind.Text (kinds _)) (c .match .keys1))
@@ -54,6 +57,7 @@ pub kind-of-spec : {M : Type 1} → statement M
 kind-of-spec =
     tie.close
     (tie.spec
+    cast-t12
     returns
     returns-2
     returns-3

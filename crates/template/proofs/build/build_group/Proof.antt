@@ -1,4 +1,4 @@
-use Rattle.template.proofs.Making.{storable, group-twice, group-bare, group-full, group-told, group-keeps}
+use Rattle.template.proofs.Making.{group-twice, group-bare, group-full, group-told, group-keeps}
 use Rattle.template.proofs.Bounds.{keeps-refused}
 use borrow.Author.Tests.{not-true, not-false}
 use borrow.Author.Needs.{needs}
@@ -28,7 +28,7 @@ returns-3 c = (group-full _ _ _ _ (c .before .before .before .before .if1 .left)
 
 -- src/build.rt:77:5
 put-group-requires : tie.Need-put-group-requires
-put-group-requires c κs = (let z = c .before .before .before .before .before .before .before .before .before .pre .0 in let y = c .before .before .before .before .before .before .before .before .before .pre .1 .last in omega arith, storable (c .before .before .before .before .before .before .before .before .before .args .g .parts .format .width) (c .before .before .before .before .before .before .before .before .before .pre .1 .narrow))
+put-group-requires c κs = let z = c .before .before .before .before .before .before .before .before .before .pre .0 in let y = c .before .before .before .before .before .before .before .before .before .pre .1 .last in omega arith
 
 -- src/build.rt:78:21
 add-t14 : tie.Need-add-t14

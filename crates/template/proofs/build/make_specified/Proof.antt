@@ -1,4 +1,4 @@
-use Rattle.template.proofs.Making.{storable, words-twice, words-unnamed, words-full, words-told, specifier-keeps}
+use Rattle.template.proofs.Making.{words-twice, words-unnamed, words-full, words-told, specifier-keeps}
 use Rattle.template.proofs.Bounds.{keeps-refused}
 use borrow.Author.Needs.{needs}
 use native.Mathlib.Omega.{arith}
@@ -31,7 +31,7 @@ returns-2 c = (words-full _ _ _ _ _ _ (c .before .before .before .before .if1 .l
 
 -- src/build.rt:30:13
 put-specifier-requires : tie.Need-put-specifier-requires
-put-specifier-requires c κs = (let z = c .before .before .before .before .before .before .before .before .pre .0 in omega arith, storable (c .before .before .before .before .before .before .before .before .args .p .format .width) (c .before .before .before .before .before .before .before .before .pre .1))
+put-specifier-requires c κs = let z = c .before .before .before .before .before .before .before .before .pre .0 in omega arith
 
 -- src/build.rt:31:29
 add-t17 : tie.Need-add-t17

@@ -27,7 +27,7 @@ use Rattle.template.proofs.reader.+further_items+parse_argument+parse_i
 use Rattle.template.proofs.reader.+further_items+parse_argument+parse_item+parse_log_segment+parse_nested+parse_piece.Proof.Item.{parse-item-parse-plain-item-requires, parse-item-enum-known-o, parse-item-enum-told, parse-item-parse-nested-requires, parse-item-enum-known-g, parse-item-with-segment-requires, parse-item-enum-told-2, parse-item-enum-known-g-2, parse-item-enum-known-o-2, parse-item-same-length, parse-item-returns, parse-item-same-length-2, parse-item-returns-2, parse-item-same-length-3, parse-item-returns-3, parse-item-same-length-4, parse-item-returns-4, parse-item-same-length-5, parse-item-returns-5}
 use Rattle.template.proofs.reader.+further_items+parse_argument+parse_item+parse_log_segment+parse_nested+parse_piece.Proof.Content.{parse-log-segment-returns, parse-log-segment-no-parts-requires, parse-log-segment-sub-parse-item, parse-log-segment-parse-item-requires, parse-log-segment-enum-known-o, parse-log-segment-sub-further-items, parse-log-segment-further-items-requires, parse-log-segment-enum-told, parse-log-segment-enum-known-o-2, parse-log-segment-same-length, parse-log-segment-returns-2, parse-log-segment-same-length-2, parse-log-segment-returns-3, parse-log-segment-same-length-3, parse-log-segment-returns-4}
 use Rattle.template.proofs.reader.+further_items+parse_argument+parse_item+parse_log_segment+parse_nested+parse_piece.Proof.Nested.{parse-nested-Inv-loop, parse-nested-μ-loop, parse-nested-no-parts-requires, parse-nested-loop-holds, parse-nested-parse-piece-requires, parse-nested-enum-known-o, parse-nested-loop-less, parse-nested-loop-again, parse-nested-enum-told, parse-nested-build-group-requires, parse-nested-same-length, parse-nested-returns, parse-nested-enum-known-o-2, parse-nested-same-length-2, parse-nested-returns-2, parse-nested-build-group-requires-2, parse-nested-same-length-3, parse-nested-returns-3}
-use Rattle.template.proofs.reader.+further_items+parse_argument+parse_item+parse_log_segment+parse_nested+parse_piece.Proof.Piece.{parse-piece-parse-argument-requires, parse-piece-enum-known-o, parse-piece-sub-is-specifier-at, parse-piece-is-specifier-at-requires, parse-piece-with-member-requires, parse-piece-enum-told, parse-piece-parse-plain-piece-requires, parse-piece-enum-known-o-2, parse-piece-same-length, parse-piece-returns, parse-piece-same-length-2, parse-piece-returns-2, parse-piece-same-length-3, parse-piece-returns-3}
+use Rattle.template.proofs.reader.+further_items+parse_argument+parse_item+parse_log_segment+parse_nested+parse_piece.Proof.Piece.{parse-piece-stands-at-requires, parse-piece-parse-argument-requires, parse-piece-enum-known-o, parse-piece-sub-is-specifier-at, parse-piece-is-specifier-at-requires, parse-piece-with-member-requires, parse-piece-enum-told, parse-piece-parse-plain-piece-requires, parse-piece-enum-known-o-2, parse-piece-same-length, parse-piece-returns, parse-piece-same-length-2, parse-piece-returns-2, parse-piece-same-length-3, parse-piece-returns-3}
 
 pub +further-items+parse-argument+parse-item+parse-log-segment+parse-nested+parse-piece-spec : {M : Type 1} → statement M
 +further-items+parse-argument+parse-item+parse-log-segment+parse-nested+parse-piece-spec = close μ-further-items μ-parse-argument μ-parse-item μ-parse-log-segment μ-parse-nested μ-parse-piece
@@ -130,6 +130,7 @@ pub +further-items+parse-argument+parse-item+parse-log-segment+parse-nested+pars
     (parse-nested-same-length-3 t)
     (parse-nested-returns-3 t))
     (λ t. parse-piece-lts.spec (parse-piece-calls t) (parse-piece-at t) parse-piece.Post
+    (parse-piece-stands-at-requires t)
     (parse-piece-parse-argument-requires t)
     (parse-piece-enum-known-o t)
     (parse-piece-sub-is-specifier-at t)

@@ -30,6 +30,9 @@ returns-2 c =
 sub-n : tie.Need-sub-n
 sub-n c = search needs
 
+cast-t8 : tie.Need-cast-t8
+cast-t8 c = omega arith
+
 returns-3 : tie.Need-returns-3
 unfolding tellMetadata MetadataWithin
 returns-3 c =
@@ -44,4 +47,4 @@ returns-4 c =
 
 pub file-name-spec : {M : Type 1} → statement M
 file-name-spec =
-    tie.close (tie.spec returns is-repeated-f-requires returns-2 sub-n returns-3 returns-4)
+    tie.close (tie.spec returns is-repeated-f-requires returns-2 sub-n cast-t8 returns-3 returns-4)

@@ -14,29 +14,29 @@ use Rattle.words.proofs.parser.letter_metadata.Tie as tie
 shared-slice-read-match : tie.Need-shared-slice-read-match
 shared-slice-read-match c = search needs
 
-add-t8 : tie.Need-add-t8
-add-t8 c = search needs
+add-t7 : tie.Need-add-t7
+add-t7 c = search needs
 
-add-t10 : tie.Need-add-t10
-add-t10 c = search needs
+add-t9 : tie.Need-add-t9
+add-t9 c = search needs
 
-add-t12 : tie.Need-add-t12
-add-t12 c = search needs
+add-t11 : tie.Need-add-t11
+add-t11 c = search needs
 
-add-t14 : tie.Need-add-t14
-add-t14 c = search needs
+add-t13 : tie.Need-add-t13
+add-t13 c = search needs
 
-add-t16 : tie.Need-add-t16
-add-t16 c = search needs
+add-t15 : tie.Need-add-t15
+add-t15 c = search needs
 
-add-t18 : tie.Need-add-t18
-add-t18 c = search needs
+add-t17 : tie.Need-add-t17
+add-t17 c = search needs
 
-add-t20 : tie.Need-add-t20
-add-t20 c = search needs
+add-t19 : tie.Need-add-t19
+add-t19 c = search needs
 
-add-t22 : tie.Need-add-t22
-add-t22 c = search needs
+add-t21 : tie.Need-add-t21
+add-t21 c = search needs
 
 returns : tie.Need-returns
 unfolding specifierOf orRepeatedF repeatedF fileName lookup same
@@ -81,14 +81,14 @@ letter-metadata-spec =
     tie.close
     (tie.spec
     shared-slice-read-match
-    add-t8
-    add-t10
-    add-t12
-    add-t14
-    add-t16
-    add-t18
-    add-t20
-    add-t22
+    add-t7
+    add-t9
+    add-t11
+    add-t13
+    add-t15
+    add-t17
+    add-t19
+    add-t21
     returns
     returns-2
     returns-3

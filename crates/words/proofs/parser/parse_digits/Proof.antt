@@ -29,6 +29,9 @@ shared-slice-read-padding c = search needs
 padding-requires : tie.Need-padding-requires
 padding-requires c κs = search needs
 
+cast-t12 : tie.Need-cast-t12
+cast-t12 c = omega arith
+
 returns-3 : tie.Need-returns-3
 unfolding tellFormat FormatWithin
 returns-3 c =
@@ -44,4 +47,5 @@ parse-digits-spec =
     returns-2
     shared-slice-read-padding
     padding-requires
+    cast-t12
     returns-3)

@@ -109,4 +109,4 @@ abbrev pub parse-nested-calls : ℕ → parse-nested-lts.Claims
 parse-nested-calls t = (no-parts-reads.Asked, no-parts-reads.Learnt, parse-piece-below t, parse-piece.Post, build-group-reads.Asked, build-group-reads.Learnt)
 
 abbrev pub parse-piece-calls : ℕ → parse-piece-lts.Claims
-parse-piece-calls t = (parse-argument-below t, parse-argument.Post, is-specifier-at-reads.Asked, is-specifier-at-reads.Learnt, with-member-reads.Asked, with-member-reads.Learnt, parse-plain-piece-reads.Asked, parse-plain-piece-reads.Learnt)
+parse-piece-calls t = (stands-at-reads.Asked, stands-at-reads.Learnt, parse-argument-below t, parse-argument.Post, is-specifier-at-reads.Asked, is-specifier-at-reads.Learnt, with-member-reads.Asked, with-member-reads.Learnt, parse-plain-piece-reads.Asked, parse-plain-piece-reads.Learnt)
