@@ -1,8 +1,9 @@
 //! Asks the crate. None of the port's limits is applied: these are the crate's own answers.
 
 use crate::sheet::{Record, Sheet, DEVICE};
-use crate::stub::format::{self, Template};
+use crate::stub::format::{self, Refusal, Template};
 use crate::stub::{DefmtRecord, Payload};
+use crate::tree::Segment;
 use std::cell::Cell;
 use std::fmt;
 use std::panic::{self, AssertUnwindSafe};
@@ -38,7 +39,7 @@ pub fn set_colour(on: bool) {
 pub fn answer(sheet: Option<&Sheet>) -> Answer {
     let Some(sheet) = sheet else { return Answer::Refused(15) };
     let Ok(template) = std::str::from_utf8(&sheet.template) else { return Answer::Refused(2) };
-    match quietly(|| Template::read(template)) {
+    match read(template) {
         None => Answer::Panic,
         Some(Err(refusal)) => Answer::Refused(refusal as u8),
         Some(Ok(template)) => Answer::Read(sheet.records.iter().map(|r| shown(&template, r)).collect()),
@@ -51,7 +52,18 @@ pub fn answer_alone(sheet: &Sheet) -> Answer {
     answer(Some(sheet))
 }
 
-fn shown(template: &Template, record: &Record) -> Shown {
+/// None where the crate panics.
+pub fn read(template: &str) -> Option<Result<Template, Refusal>> {
+    quietly(|| Template::read(template))
+}
+
+/// The segments of a template without `{s}`.
+pub fn read_unchecked(template: &str) -> Option<Result<Vec<Segment>, Refusal>> {
+    quietly(|| Template::read_unchecked(template))
+}
+
+/// One record's line, under the colour that `set_colour` set last.
+pub fn shown(template: &Template, record: &Record) -> Shown {
     if !record.is_possible() {
         return Shown::Impossible(14);
     }

@@ -1,12 +1,22 @@
 //! The crate itself, run as a judge: what it answers for a session sheet or a template.
 
+#[cfg(feature = "port")]
+pub mod compare;
 pub mod examples;
+#[cfg(feature = "fuzz")]
+mod fuzz;
+pub mod inputs;
 pub mod judge;
 pub mod meaning;
+#[cfg(feature = "port")]
+mod ruling;
 pub mod sample;
 pub mod sheet;
+#[cfg(feature = "port")]
+pub mod speed;
 pub mod stream;
 pub mod stub;
+pub mod tree;
 
 // The crate's text names its frame so.
 pub use stub::Frame;

@@ -1,13 +1,16 @@
 //! `pralakuon-oracle MODE`: README.md says what each mode reads and writes.
 
 use pralakuon_oracle::sheet::{Record, Sheet, COLOUR, FILE, LINE, MODULE, STRAIGHT};
-use pralakuon_oracle::{examples, judge, meaning, sample, stream, VERSIONS};
+use pralakuon_oracle::{examples, inputs, judge, meaning, sample, stream, VERSIONS};
 use std::io::{self, Read, Write};
 use std::process::ExitCode;
 
 const USAGE: &str = "usage: pralakuon-oracle lines | segments | text | examples | versions
        pralakuon-oracle sample FILE [SEED]
        pralakuon-oracle meaning LIST CRATES FOLDER STEP
+       pralakuon-oracle seeds LIST FOLDER
+       pralakuon-oracle compare N [SEED]   (built by oracle/compare)
+       pralakuon-oracle speed              (built by oracle/speed)
        pralakuon-oracle sheet [--colour] [--straight] --template TEXT [--record KEY=VALUE,..]..
        keys of a record: source level file line module timestamp message (the rest, commas too)";
 
@@ -29,6 +32,14 @@ fn main() -> ExitCode {
             Ok(step) => meaning::run(list, crates, folder, step),
             Err(_) => return usage(),
         },
+        ["seeds", list, folder] => inputs::seeds(list, folder),
+        #[cfg(feature = "port")]
+        ["compare", ref numbers @ ..] => return compare(numbers),
+        #[cfg(feature = "port")]
+        ["speed"] => {
+            pralakuon_oracle::speed::run();
+            Ok(())
+        }
         ["sheet", ref options @ ..] => match sheet(options) {
             Some(sheet) => io::stdout().write_all(&sheet.write()),
             None => return usage(),
@@ -47,6 +58,18 @@ fn main() -> ExitCode {
 fn usage() -> ExitCode {
     eprintln!("{USAGE}");
     ExitCode::from(2)
+}
+
+#[cfg(feature = "port")]
+fn compare(numbers: &[&str]) -> ExitCode {
+    use pralakuon_oracle::compare::{run, SEED};
+    let numbers: Vec<Option<u64>> = numbers.iter().map(|word| word.parse().ok()).collect();
+    let alike = match numbers[..] {
+        [Some(count)] => run(count, SEED),
+        [Some(count), Some(seed)] => run(count, seed),
+        _ => return usage(),
+    };
+    ExitCode::from(u8::from(!alike))
 }
 
 fn text() -> io::Result<()> {

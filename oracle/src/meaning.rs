@@ -1,5 +1,6 @@
 //! Writes a crate of definitions that has the checker compute the meaning on cases of the stored list.
 
+use crate::sample::{self, Stored};
 use std::fmt::Write as _;
 use std::path::Path;
 use std::{fs, io};
@@ -31,23 +32,12 @@ pub fn run(list: &str, crates: &str, folder: &str, step: usize) -> io::Result<()
 
 /// What the port must print; listed differences that are no refusals are left out.
 fn cases(list: &[u8]) -> Vec<Case> {
-    let head = list.windows(2).position(|two| two == b"\n\n").map_or(0, |end| end + 2);
-    let (mut rest, mut all) = (&list[head..], Vec::new());
-    while let Some((&number, after)) = rest.split_first() {
-        let (sheet, after) = sized(after);
-        let (output, after) = sized(after);
-        rest = after;
-        let output = if number == 0 { output.to_vec() } else { format!("! {number}\n").into_bytes() };
-        if number != 255 {
-            all.push(Case { sheet: sheet.to_vec(), output });
-        }
-    }
-    all
-}
-
-fn sized(bytes: &[u8]) -> (&[u8], &[u8]) {
-    let (length, rest) = bytes.split_at(4);
-    rest.split_at(u32::from_le_bytes(length.try_into().unwrap()) as usize)
+    let output = |stored: &Stored| match stored.number {
+        0 => stored.output.to_vec(),
+        number => format!("! {number}\n").into_bytes(),
+    };
+    let told = sample::stored(list).into_iter().filter(|stored| stored.number != sample::LISTED);
+    told.map(|stored| Case { sheet: stored.sheet.to_vec(), output: output(&stored) }).collect()
 }
 
 /// The definitions that must unfold: (crate, file, names).

@@ -1,9 +1,9 @@
 //! Makes the stored list of the crate's answers; README.md says where each byte of it stands.
 
-mod cases;
+pub(crate) mod cases;
 mod counts;
 mod limits;
-mod random;
+pub(crate) mod random;
 
 use crate::judge::{self, Answer, Shown};
 use crate::sheet::{Record, Sheet, DEVICE};
@@ -15,7 +15,7 @@ use std::path::Path;
 pub const SEED: u64 = 1;
 
 /// The number of a case whose difference is listed and no refusal.
-const LISTED: u8 = 255;
+pub(crate) const LISTED: u8 = 255;
 
 pub fn run(file: &str, seed: u64) -> io::Result<()> {
     let cases = cases::all(seed);
@@ -54,6 +54,30 @@ N 255: no refusal, but a listed difference: a leading `.` of a path that the cra
 
 "
     )
+}
+
+/// A case of the stored list.
+pub(crate) struct Stored<'a> {
+    pub number: u8,
+    pub sheet: &'a [u8],
+    pub output: &'a [u8],
+}
+
+pub(crate) fn stored(list: &[u8]) -> Vec<Stored<'_>> {
+    let head = list.windows(2).position(|two| two == b"\n\n").map_or(0, |end| end + 2);
+    let (mut rest, mut all) = (&list[head..], Vec::new());
+    while let Some((&number, after)) = rest.split_first() {
+        let (sheet, after) = sized(after);
+        let (output, after) = sized(after);
+        all.push(Stored { number, sheet, output });
+        rest = after;
+    }
+    all
+}
+
+fn sized(bytes: &[u8]) -> (&[u8], &[u8]) {
+    let (length, rest) = bytes.split_at(4);
+    rest.split_at(u32::from_le_bytes(length.try_into().unwrap()) as usize)
 }
 
 /// A case that is to be printed alike must be within every limit; a list with a wrong case is not written.

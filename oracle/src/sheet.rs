@@ -59,7 +59,7 @@ impl Record {
         known && level && file && line && module
     }
 
-    fn write(&self) -> Vec<u8> {
+    pub fn write(&self) -> Vec<u8> {
         let mut body = vec![self.source, self.level, self.mask];
         body.extend(self.line.to_le_bytes());
         for field in self.fields() {
@@ -72,7 +72,7 @@ impl Record {
         body
     }
 
-    fn read(body: &[u8]) -> Option<Record> {
+    pub fn read(body: &[u8]) -> Option<Record> {
         let (head, mut texts) = split(body, RECORD_HEAD)?;
         let mut fields = [&body[..0]; 4];
         for (i, field) in fields.iter_mut().enumerate() {

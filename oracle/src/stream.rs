@@ -70,7 +70,7 @@ fn request(input: &mut impl Read) -> io::Result<Option<Vec<u8>>> {
 }
 
 /// Answers on all processors, in the order of the requests.
-fn side_by_side<T: Sync>(requests: &[T], answer: impl Fn(&T) -> Vec<u8> + Sync) -> Vec<Vec<u8>> {
+pub(crate) fn side_by_side<T: Sync, A: Send>(requests: &[T], answer: impl Fn(&T) -> A + Sync) -> Vec<A> {
     let workers = thread::available_parallelism().map_or(1, usize::from);
     let share = requests.len() / workers + 1;
     let answer = &answer;

@@ -1,5 +1,7 @@
 //! The crate's module, unchanged, and beside it what reaches its private names.
 
+use crate::tree;
+
 include!(concat!(env!("OUT_DIR"), "/format/mod.rs"));
 
 /// Why the crate gives no segments, as document 01 numbers it.
@@ -26,9 +28,13 @@ impl Template {
 
     /// The reading without the check for {s}. A leading `{s}` is read for itself and leaves the
     /// reader where it began, so what follows it is what the template alone gives.
-    fn read_unchecked(template: &str) -> Result<Vec<LogSegment>, Refusal> {
+    pub fn read_unchecked(template: &str) -> Result<Vec<tree::Segment>, Refusal> {
         let read = Template::read(&format!("{{s}}{template}"))?;
-        Ok(read.formatter.format[1..].to_vec())
+        Ok(segments(&read.formatter.format[1..]))
+    }
+
+    pub fn segments(&self) -> Vec<tree::Segment> {
+        segments(&self.formatter.format)
     }
 
     pub fn device_line(&self, record: &DefmtRecord) -> String {
@@ -62,92 +68,80 @@ pub fn built_in_dump(oneline: bool, location: bool, timestamp: bool, host: bool)
     };
     let config = FormatterConfig { format, is_timestamp_available: timestamp };
     let formatter = if host { HostFormatter::new(config).formatter } else { Formatter::new(config).formatter };
-    list_dump(&formatter.format)
+    tree::dump(&segments(&formatter.format))
 }
 
-/// The segments of a template in one line of ASCII; README.md has the grammar.
+/// The segments of a template, or the number that the crate gives instead.
 pub fn dump(template: &str) -> String {
     match Template::read(template) {
-        Ok(read) => list_dump(&read.formatter.format),
+        Ok(read) => tree::dump(&read.segments()),
         Err(Refusal::Failure) => "3".to_string(),
         Err(Refusal::NoMessage) => match Template::read_unchecked(template) {
-            Ok(segments) => format!("4 {}", list_dump(&segments)),
+            Ok(segments) => format!("4 {}", tree::dump(&segments)),
             Err(refusal) => unreachable!("read with a check only: {refusal:?}"),
         },
     }
 }
 
-fn list_dump(segments: &[LogSegment]) -> String {
-    segments.iter().map(segment_dump).collect()
+fn segments(list: &[LogSegment]) -> Vec<tree::Segment> {
+    list.iter()
+        .map(|segment| tree::Segment { kind: kind(&segment.metadata), format: format(&segment.format) })
+        .collect()
 }
 
-fn segment_dump(segment: &LogSegment) -> String {
-    let format = format_dump(&segment.format);
-    match &segment.metadata {
-        LogMetadata::String(text) => {
-            let hex: String = text.bytes().map(|b| format!("{b:02x}")).collect();
-            format!("t{hex};")
+fn kind(metadata: &LogMetadata) -> tree::Kind {
+    tree::Kind::Specifier(match metadata {
+        LogMetadata::String(text) => return tree::Kind::Text(text.clone()),
+        LogMetadata::NestedLogSegments(members) => return tree::Kind::Group(segments(members)),
+        LogMetadata::CrateName => tree::Specifier::CrateName,
+        LogMetadata::FileName(count) => tree::Specifier::FileName(*count),
+        LogMetadata::FilePath => tree::Specifier::FilePath,
+        LogMetadata::LineNumber => tree::Specifier::LineNumber,
+        LogMetadata::Log => tree::Specifier::Log,
+        LogMetadata::LogLevel => tree::Specifier::LogLevel,
+        LogMetadata::ModulePath => tree::Specifier::ModulePath,
+        LogMetadata::Timestamp => tree::Specifier::Timestamp,
+    })
+}
+
+fn format(format: &LogFormat) -> tree::Format {
+    let alignment = |alignment| match alignment {
+        Alignment::Left => tree::Alignment::Left,
+        Alignment::Center => tree::Alignment::Centre,
+        Alignment::Right => tree::Alignment::Right,
+    };
+    let padding = |padding| match padding {
+        Padding::Space => tree::Padding::Space,
+        Padding::Zero => tree::Padding::Zero,
+    };
+    tree::Format {
+        width: format.width,
+        alignment: format.alignment.map(alignment),
+        padding: format.padding.map(padding),
+        colour: format.color.map(colour),
+        styles: format.style.iter().flatten().map(|style| 1 << place(style)).sum(),
+    }
+}
+
+fn colour(colour: LogColor) -> tree::Colour {
+    match colour {
+        LogColor::SeverityLevel => tree::Colour::Severity,
+        LogColor::WarnError => tree::Colour::WarnError,
+        LogColor::Color(colour) => {
+            let word = format!("{colour:?}").to_lowercase();
+            tree::Colour::Fixed(tree::COLOURS.iter().position(|known| *known == word).expect("a colour of a template"))
         }
-        LogMetadata::NestedLogSegments(members) => format!("g{format}({});", list_dump(members)),
-        specifier => format!("s{}{format};", specifier_name(specifier)),
     }
 }
 
-fn specifier_name(metadata: &LogMetadata) -> String {
-    match metadata {
-        LogMetadata::CrateName => "c".to_string(),
-        LogMetadata::FileName(count) => format!("f{count}"),
-        LogMetadata::FilePath => "F".to_string(),
-        LogMetadata::LineNumber => "l".to_string(),
-        LogMetadata::Log => "s".to_string(),
-        LogMetadata::LogLevel => "L".to_string(),
-        LogMetadata::ModulePath => "m".to_string(),
-        LogMetadata::Timestamp => "t".to_string(),
-        LogMetadata::String(_) | LogMetadata::NestedLogSegments(_) => unreachable!("not a specifier"),
-    }
-}
-
-fn format_dump(format: &LogFormat) -> String {
-    let width = match format.width {
-        Some(width) => width.to_string(),
-        None => "-".to_string(),
-    };
-    let alignment = match format.alignment {
-        None => "-",
-        Some(Alignment::Left) => "<",
-        Some(Alignment::Center) => "^",
-        Some(Alignment::Right) => ">",
-    };
-    let padding = match format.padding {
-        None => "-",
-        Some(Padding::Space) => "s",
-        Some(Padding::Zero) => "z",
-    };
-    let colour = match format.color {
-        None => "-".to_string(),
-        Some(LogColor::SeverityLevel) => "severity".to_string(),
-        Some(LogColor::WarnError) => "werror".to_string(),
-        Some(LogColor::Color(colour)) => format!("{colour:?}").to_lowercase(),
-    };
-    format!("[{width},{alignment},{padding},{colour},{}]", style_dump(format))
-}
-
-fn style_dump(format: &LogFormat) -> String {
-    let asked = format.style.clone().unwrap_or_default();
-    let letters: String = [
-        (Styles::Bold, 'b'),
-        (Styles::Dimmed, 'd'),
-        (Styles::Underline, 'u'),
-        (Styles::Italic, 'i'),
-        (Styles::Strikethrough, 's'),
-    ]
-    .into_iter()
-    .filter(|(style, _)| asked.contains(style))
-    .map(|(_, letter)| letter)
-    .collect();
-    if letters.is_empty() {
-        "-".to_string()
-    } else {
-        letters
+/// Where `tree::STYLES` has it.
+fn place(style: &Styles) -> u8 {
+    match style {
+        Styles::Bold => 0,
+        Styles::Dimmed => 1,
+        Styles::Underline => 2,
+        Styles::Italic => 3,
+        Styles::Strikethrough => 4,
+        style => unreachable!("no style of a template: {style:?}"),
     }
 }

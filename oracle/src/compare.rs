@@ -1,0 +1,68 @@
+//! The port through its C entries and the crate, side by side in one process, over as many cases as are asked for.
+
+mod calls;
+pub(crate) mod case;
+mod found;
+mod lent;
+mod listed;
+mod make;
+mod ruled;
+
+use crate::judge;
+use crate::stream::side_by_side;
+use case::Seen;
+use found::Found;
+use make::Maker;
+use std::ops::Range;
+
+pub const SEED: u64 = 1;
+
+/// Cases that are compared under one colour before the other has its turn: the crate's switch is one for all threads.
+const BATCH: u64 = 8192;
+
+/// Cases that are handed to a thread as one: few enough that all threads end together.
+const SHARE: u64 = 64;
+
+/// Cases after which a word is said, so that a long run is seen to go on.
+const PROGRESS: u64 = 1_000_000;
+
+/// True where nothing parts but what is listed.
+pub fn run(count: u64, seed: u64) -> bool {
+    let maker = Maker::new(seed);
+    let mut found = Found::default();
+    for batch in in_steps(0..count, BATCH) {
+        let shares = in_steps(batch.clone(), SHARE);
+        for colour in [false, true] {
+            judge::set_colour(colour);
+            for part in side_by_side(&shares, |share| compare(&maker, share.clone(), colour)) {
+                found.add(part);
+            }
+        }
+        if batch.start / PROGRESS < batch.end / PROGRESS {
+            eprintln!("{} of {count} cases", batch.end / PROGRESS * PROGRESS);
+        }
+    }
+    found.print(count)
+}
+
+fn in_steps(range: Range<u64>, step: u64) -> Vec<Range<u64>> {
+    let end = range.end;
+    range.step_by(step as usize).map(|from| from..(from + step).min(end)).collect()
+}
+
+fn compare(maker: &Maker, share: Range<u64>, colour: bool) -> Found {
+    let mut found = Found::default();
+    for index in share {
+        let (kind, case) = maker.case(index);
+        let more = 1 + (index % 61) as usize;
+        let mut seen = Seen::default();
+        if let Err(parting) = case.compare(colour, more, &mut seen) {
+            found.part(index, format!("{}, {parting}\n{case}", make::KINDS[kind]));
+        }
+        if !colour {
+            found.count_kind(kind);
+        }
+        found.count(&seen);
+    }
+    found
+}

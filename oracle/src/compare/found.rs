@@ -1,0 +1,68 @@
+//! What a comparison found: counts, and the partings that are not listed.
+
+use super::case::Seen;
+use super::listed;
+use super::make::KINDS;
+use std::collections::{BTreeMap, BTreeSet};
+
+/// So many are printed in full.
+const SHOWN: usize = 5;
+
+#[derive(Default)]
+pub struct Found {
+    kinds: [u64; KINDS.len()],
+    /// Line calls and records of sheets by what they owe, 0 for a line.
+    answers: [u64; 16],
+    listed: [u64; listed::NAMES.len()],
+    parted: BTreeSet<u64>,
+    texts: BTreeMap<u64, String>,
+}
+
+impl Found {
+    pub fn count_kind(&mut self, kind: usize) {
+        self.kinds[kind] += 1;
+    }
+
+    pub fn count(&mut self, seen: &Seen) {
+        seen.answers.iter().for_each(|number| self.answers[usize::from(*number)] += 1);
+        seen.listed.iter().for_each(|listed| self.listed[*listed as usize] += 1);
+    }
+
+    pub fn part(&mut self, index: u64, text: String) {
+        self.parted.insert(index);
+        if self.texts.len() < SHOWN {
+            self.texts.entry(index).or_insert(text);
+        }
+    }
+
+    pub fn add(&mut self, other: Found) {
+        let sum = |into: &mut [u64], from: &[u64]| into.iter_mut().zip(from).for_each(|(into, from)| *into += from);
+        sum(&mut self.kinds, &other.kinds);
+        sum(&mut self.answers, &other.answers);
+        sum(&mut self.listed, &other.listed);
+        self.parted.extend(other.parted);
+        for (index, text) in other.texts {
+            self.part(index, text);
+        }
+    }
+
+    /// True where nothing parted but what is listed.
+    pub fn print(&self, count: u64) -> bool {
+        for (index, text) in &self.texts {
+            println!("case {index}: {text}\n");
+        }
+        print_counts("case", &KINDS.map(str::to_string), &self.kinds);
+        let answers: Vec<String> =
+            (0..16).map(|number| if number == 0 { "line".to_string() } else { format!("refusal {number}") }).collect();
+        print_counts("answer", &answers, &self.answers);
+        print_counts("listed difference", &listed::NAMES.map(str::to_string), &self.listed);
+        println!("{count} cases, {} differences not listed", self.parted.len());
+        self.parted.is_empty()
+    }
+}
+
+fn print_counts(what: &str, names: &[String], counts: &[u64]) {
+    for (name, count) in names.iter().zip(counts).filter(|(_, count)| **count > 0) {
+        println!("{what}: {name} {count}");
+    }
+}

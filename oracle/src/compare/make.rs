@@ -1,0 +1,111 @@
+//! The cases: each is made from the seed and its place alone, and kinds take turns, so that any number of cases has all
+//! kinds.
+
+mod crossed;
+mod edges;
+mod records;
+mod sheets;
+mod short;
+
+use super::case::Case;
+use crate::sample::cases;
+use crate::sample::random::Rng;
+use crate::sheet::{Record, Sheet};
+
+pub const KINDS: [&str; 6] = ["short templates", "long templates", "records", "sheets", "boundaries", "built-ins"];
+
+/// Places in `KINDS`. Short templates are cheap, and so many turns show all of up to five tokens in ten million cases.
+const TURNS: [usize; 32] =
+    [0, 1, 0, 2, 0, 3, 0, 0, 1, 0, 2, 0, 4, 0, 0, 1, 0, 2, 0, 0, 1, 0, 2, 0, 3, 0, 0, 1, 0, 2, 5, 0];
+
+/// Settings bytes with a bit that is not known.
+const UNKNOWN: &[&u8] = &[&4, &5, &6, &7, &8, &16, &32, &64, &128, &129, &131, &252, &255];
+
+/// Widths beyond a block of 128 bytes, in which characters are counted.
+const WIDE: &[&str] =
+    &["{s:^300}|", "{[{s}{t}]%>500%bold}|", "{m:0250}|{s:<130}|", "{F:>290}|{s}", "{ff:^199}{c:99}|{s:red:400}|"];
+
+pub struct Maker {
+    seed: u64,
+    boundaries: Vec<Sheet>,
+}
+
+impl Maker {
+    pub fn new(seed: u64) -> Maker {
+        Maker { seed, boundaries: cases::all(seed).into_iter().map(|case| case.sheet).collect() }
+    }
+
+    /// The place of its kind, and the case.
+    pub fn case(&self, index: u64) -> (usize, Case) {
+        let turn = (index % TURNS.len() as u64) as usize;
+        let kind = TURNS[turn];
+        let of_kind = |turns: &[usize]| turns.iter().filter(|other| **other == kind).count() as u64;
+        let nth = index / TURNS.len() as u64 * of_kind(&TURNS) + of_kind(&TURNS[..turn]);
+        let mut rng = Rng(self.seed ^ index.wrapping_mul(0xd134_2543_de82_ef95));
+        let case = match kind {
+            0 => line(&mut rng, short::template(self.seed, nth), short::record(nth).write()),
+            1 => long_template(&mut rng),
+            2 => record(&mut rng),
+            3 => Case::Sheet(sheets::sheet(&mut rng)),
+            4 => self.boundary(&mut rng, nth as usize),
+            _ => Case::BuiltIn(built_in(&mut rng, nth)),
+        };
+        (kind, case)
+    }
+
+    /// First the stored list's cases as they are; then their templates with other records and their records with other
+    /// templates.
+    fn boundary(&self, rng: &mut Rng, nth: usize) -> Case {
+        let sheet = &self.boundaries[nth % self.boundaries.len()];
+        match (nth / self.boundaries.len(), sheet.records.first()) {
+            (0, _) => Case::Sheet(sheet.write()),
+            (round, Some(first)) if round % 2 == 0 => {
+                let template = crossed::template(rng);
+                line(rng, template, first.write())
+            }
+            _ => {
+                let record = records::record(rng);
+                line(rng, sheet.template.clone(), record)
+            }
+        }
+    }
+}
+
+fn line(rng: &mut Rng, template: Vec<u8>, record: Vec<u8>) -> Case {
+    Case::Line { template, record, unknown: *rng.pick(UNKNOWN) }
+}
+
+fn long_template(rng: &mut Rng) -> Case {
+    let template = crossed::template(rng);
+    let record = rng.record().write();
+    line(rng, template, record)
+}
+
+/// A record of every shape and a template that is mostly read; a few lines of millions of bytes.
+fn record(rng: &mut Rng) -> Case {
+    if rng.one_in(8000) {
+        return swollen(rng);
+    }
+    let depth = 1 + rng.below(3);
+    let template = if rng.one_in(8) { rng.pick(WIDE).to_string() } else { rng.template(depth) };
+    let record = records::record(rng);
+    line(rng, template.into_bytes(), record)
+}
+
+/// Groups in groups, each of which puts its prefix behind every reset of the message once more.
+fn swollen(rng: &mut Rng) -> Case {
+    let mut template = "{s}".repeat(1 + rng.below(8));
+    for _ in 0..rng.below(7) {
+        template = format!("{{{{L}}{template}%red%bold%underline%italic%strike}}");
+    }
+    let record = Record { level: 1, message: b"\x1b[0m".repeat(1024), ..Record::default() };
+    line(rng, template.into_bytes(), record.write())
+}
+
+/// All sixteen choices, then other bytes than 1 for yes.
+fn built_in(rng: &mut Rng, nth: u64) -> [u8; 4] {
+    if nth < 16 {
+        return [8, 4, 2, 1].map(|bit| u8::from(nth & bit != 0));
+    }
+    [(); 4].map(|()| if rng.one_in(2) { 0 } else { rng.below(256) as u8 })
+}

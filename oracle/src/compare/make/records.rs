@@ -1,0 +1,128 @@
+//! Records of every shape, also such as are refused.
+
+use super::edges;
+use crate::sample::random::Rng;
+use crate::sheet::{Record, FILE, LINE, MODULE};
+
+const FILES: &[&str] =
+    &["", ".", "./", "./a", "././a/b.rs", ".//a", "./..", "/.", "//a//b//", "/../a", "a/./.", "é/ü.rs", "/", ".."];
+const DIFFS: &[&str] = &[
+    "wall\n left: `12`\nright: `13`",
+    "a\nb\r\n left: `é\x1b[0m`\r\nright: ``\n",
+    "wall\n left: `\nright: `",
+    " left: `1`\nright: `2`",
+    "wall\n left: `1`\nright: `2`\n.",
+    "wall\n left: `1` \nright: `2`",
+];
+const PIECES: &[&str] = &[
+    "\x1b[0m",
+    "\x1b[0m",
+    "\x1b[1;31m",
+    "\x1b[m",
+    "\x1b[",
+    "\x1b",
+    "0m",
+    "m",
+    "[",
+    ";",
+    "0",
+    "a",
+    "é",
+    "漢",
+    "🦀",
+    "\n",
+    "::",
+    "/",
+    ".",
+    " ",
+];
+
+pub fn record(rng: &mut Rng) -> Vec<u8> {
+    let mut record = rng.record();
+    match rng.below(20) {
+        0 | 1 => impossible(rng, &mut record),
+        2 => {
+            let text = long(rng);
+            *any_field(rng, &mut record) = text;
+        }
+        3 => {
+            let text = edges::text(rng);
+            *any_field(rng, &mut record) = text;
+        }
+        4 | 5 => {
+            record.mask |= FILE;
+            record.file = rng.pick(FILES).into();
+        }
+        6 => record.message = rng.pick(DIFFS).into(),
+        7..=10 => {
+            let text = mixed(rng);
+            *any_field(rng, &mut record) = text;
+        }
+        11 => return of_wrong_size(rng, &record),
+        _ => {}
+    }
+    record.write()
+}
+
+/// One of the four, and present.
+fn any_field<'a>(rng: &mut Rng, record: &'a mut Record) -> &'a mut Vec<u8> {
+    match rng.below(6) {
+        0 => {
+            record.mask |= FILE;
+            &mut record.file
+        }
+        1 => {
+            record.mask |= MODULE;
+            &mut record.module
+        }
+        2 => &mut record.timestamp,
+        _ => &mut record.message,
+    }
+}
+
+/// Each way that refusal 14 names, and its near misses.
+fn impossible(rng: &mut Rng, record: &mut Record) {
+    let byte = rng.below(256) as u8;
+    match rng.below(8) {
+        0 => record.source = *rng.pick(&[&1, &2, &byte]),
+        1 => record.level = *rng.pick(&[&0, &5, &6, &byte]),
+        2 => record.mask = *rng.pick(&[&7, &8, &byte]),
+        3 => (record.source, record.level) = (1, 0),
+        4 => record.mask &= !FILE,
+        5 => record.mask &= !LINE,
+        6 => record.mask &= !MODULE,
+        _ => (record.source, record.level, record.mask) = (byte & 3, byte >> 2 & 7, byte >> 4),
+    }
+}
+
+/// On both sides of 4,096 bytes.
+fn long(rng: &mut Rng) -> Vec<u8> {
+    let size = 4095 + rng.below(3);
+    let piece = rng.pick(&["m", "é", "\x1b[0m", "a/", "a::", "\x1b[", "\x1b[31m漢\x1b[0m"]).as_bytes();
+    let mut text = piece.repeat(size / piece.len());
+    text.resize(size, b'.');
+    if rng.one_in(8) {
+        text[size - 1] = 0xc3;
+    }
+    text
+}
+
+/// Now and then longer than a block of 128 bytes, in which characters are counted.
+fn mixed(rng: &mut Rng) -> Vec<u8> {
+    let pieces = if rng.one_in(6) { 150 } else { 9 };
+    (0..rng.below(pieces)).flat_map(|_| rng.pick(PIECES).bytes()).collect()
+}
+
+fn of_wrong_size(rng: &mut Rng, record: &Record) -> Vec<u8> {
+    let mut bytes = record.write();
+    match rng.below(4) {
+        0 => bytes.push(b'x'),
+        1 => bytes.truncate(rng.below(bytes.len())),
+        2 => bytes.clear(),
+        _ => {
+            let length = 7 + rng.below(8);
+            bytes[length] = bytes[length].wrapping_add(1);
+        }
+    }
+    bytes
+}

@@ -1,0 +1,84 @@
+//! Whole sheets, half of them damaged.
+
+use super::{crossed, records};
+use crate::sample::random::Rng;
+use crate::sheet::{write_bodies, Record, Sheet};
+
+/// Refusal 15 above it.
+const MOST: usize = 65536;
+
+pub fn sheet(rng: &mut Rng) -> Vec<u8> {
+    if rng.one_in(60) {
+        return large(rng);
+    }
+    let bodies = bodies(rng);
+    match rng.below(6) {
+        0 | 1 => write_bodies(&damaged_bodies(rng, bodies)),
+        2 => damaged(rng, write_bodies(&bodies)),
+        _ => write_bodies(&bodies),
+    }
+}
+
+/// Settings and template, then up to three records.
+fn bodies(rng: &mut Rng) -> Vec<Vec<u8>> {
+    let template = if rng.one_in(4) { crossed::template(rng) } else { rng.template(2).into_bytes() };
+    let settings = rng.below(4) as u8;
+    let mut bodies = vec![[&[settings], &template[..]].concat()];
+    for _ in 0..rng.below(4) {
+        bodies.push(records::record(rng));
+    }
+    bodies
+}
+
+fn damaged_bodies(rng: &mut Rng, mut bodies: Vec<Vec<u8>>) -> Vec<Vec<u8>> {
+    let any = rng.below(bodies.len());
+    match rng.below(6) {
+        0 => bodies[0][0] = rng.below(256) as u8,
+        1 => bodies[0].clear(),
+        2 => drop(bodies.remove(any)),
+        3 => bodies[any].push(0),
+        4 => drop(bodies[any].pop()),
+        _ => bodies.swap(0, any),
+    }
+    bodies
+}
+
+/// Cut short, made longer, or with one byte changed, mostly in the contents.
+fn damaged(rng: &mut Rng, mut sheet: Vec<u8>) -> Vec<u8> {
+    let near = sheet.len().min(24);
+    let size = if rng.one_in(3) { sheet.len() } else { near };
+    let at = rng.below(size);
+    match rng.below(5) {
+        0 => sheet.truncate(at),
+        1 => sheet.extend(vec![b'x'; 1 + rng.below(3)]),
+        2 => sheet[at] = sheet[at].wrapping_add(1),
+        3 => sheet[at] = sheet[at].wrapping_sub(1),
+        _ => sheet[at] = rng.below(256) as u8,
+    }
+    sheet
+}
+
+/// At the size of a sheet, at the size of the program's buffer, or at the widest that Rust's formatter takes.
+fn large(rng: &mut Rng) -> Vec<u8> {
+    let settings = rng.below(4) as u8;
+    let many = "{s}".repeat(15 + rng.below(3));
+    let (template, records) = match rng.below(3) {
+        0 => ("{s}".to_string(), filling(rng)),
+        1 => (many + rng.pick(&["", "x", "{s:9}"]), vec![saying(vec![b'm'; 4094 + rng.below(4)]), saying(vec![])]),
+        _ => (format!("{{{many}}}"), vec![saying(b"\x1b[0m".repeat(1023 + rng.below(2)))]),
+    };
+    Sheet { settings, template: template.into_bytes(), records }.write()
+}
+
+fn saying(message: Vec<u8>) -> Record {
+    Record { level: 1, message, ..Record::default() }
+}
+
+/// Records with which a sheet of `{s}` has one byte less than it may, as many, or one more.
+fn filling(rng: &mut Rng) -> Vec<Record> {
+    let mut records = vec![saying(vec![b'm'; 4096]); 15];
+    records.push(saying(vec![]));
+    let sheet = Sheet { settings: 0, template: b"{s}".to_vec(), records: records.clone() };
+    records[15].message = vec![b'm'; MOST - sheet.write().len() - 1 + rng.below(3)];
+    records
+}

@@ -1,0 +1,97 @@
+//! Times of the port and of the crate, taken in turn in one run, as the tables of docs/SPEED.md.
+
+mod growth;
+mod stack;
+mod timing;
+
+use crate::judge::set_colour;
+use crate::sheet::{Record, COLOUR, FILE, LINE, MODULE, STRAIGHT};
+use crate::stub::format::{built_in, Template};
+use crate::stub::{DefmtRecord, Payload};
+use crate::VERSIONS;
+use pralakuon::entries;
+use std::env::consts::ARCH;
+use std::hint::black_box;
+use timing::{in_turn, shown};
+
+const FILE_NAME: &str = "/srv/scan/firmware/src/gauge.rs";
+const MODULE_PATH: &str = "firmware::gauge::measure";
+const TIMESTAMP: &str = "0.002500";
+const MESSAGE: &str = "wall B3 crack 0.412 mm";
+const LINE_NUMBER: u32 = 118;
+
+/// Frames of a scan in a second.
+const RATE: f64 = 400.0;
+
+pub fn run() {
+    println!("Run on {ARCH} with {VERSIONS}.\n");
+    reading();
+    lines();
+    growth::run();
+    stack::run();
+}
+
+/// A record of the wall scan.
+fn gauge() -> Record {
+    Record {
+        level: 3,
+        mask: FILE | LINE | MODULE,
+        line: LINE_NUMBER,
+        file: FILE_NAME.into(),
+        module: MODULE_PATH.into(),
+        timestamp: TIMESTAMP.into(),
+        message: MESSAGE.into(),
+        ..Record::default()
+    }
+}
+
+/// The same record as the crate is given it.
+fn crates_line(template: &Template) -> String {
+    let payload = Payload { level: Some(log::Level::Info), timestamp: TIMESTAMP.to_string() };
+    let mut builder = log::Record::builder();
+    builder.file(Some(FILE_NAME)).line(Some(LINE_NUMBER)).module_path(Some(MODULE_PATH));
+    template.device_line(&DefmtRecord { log_record: &builder.args(format_args!("{MESSAGE}")).build(), payload })
+}
+
+fn built_ins() -> impl Iterator<Item = &'static str> {
+    (0..8).map(|n| built_in(n & 4 != 0, n & 2 != 0, n & 1 != 0))
+}
+
+fn reading() {
+    println!("| reading | crate, ns | port, ns | crate / port |\n|---|---|---|---|");
+    for template in built_ins() {
+        let crates = || Template::read(black_box(template)).is_ok();
+        let ports = || entries::check(black_box(template.as_bytes()));
+        assert_eq!((crates(), ports()), (true, 0), "a built-in is read");
+        let (theirs, ours) = in_turn(crates, ports);
+        println!("| `{}` | {} | {} | {} |", template.escape_debug(), shown(theirs), shown(ours), shown(theirs / ours));
+    }
+    println!();
+}
+
+/// The crate formats by a template that it has read before; the port reads the template in each call.
+fn lines() {
+    println!("| one line | setting | crate's `format`, ns | port, ns | crate / port | {RATE} a second |");
+    println!("|---|---|---|---|---|---|");
+    let record = gauge().write();
+    for template in built_ins() {
+        let read = Template::read(template).ok().expect("a built-in is read");
+        for (name, settings) in [("plain", 0), ("coloured", COLOUR), ("straight", COLOUR | STRAIGHT)] {
+            set_colour(settings & COLOUR != 0);
+            let mut out = [0; 1024];
+            let mut ports = || entries::line(black_box(template.as_bytes()), settings, black_box(&record), &mut out);
+            let answer = ports();
+            assert_eq!(entries::refusal_of(answer), 0, "a built-in gives a line");
+            let (theirs, ours) = in_turn(|| crates_line(black_box(&read)), ports);
+            println!(
+                "| `{}` | {name} | {} | {} | {} | {} % of a core |",
+                template.escape_debug(),
+                shown(theirs),
+                shown(ours),
+                shown(theirs / ours),
+                shown(RATE * ours / 1e9 * 100.0)
+            );
+        }
+    }
+    println!();
+}

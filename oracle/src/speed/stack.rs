@@ -1,0 +1,82 @@
+//! The stack that each entry needs: what lies below is painted before a call and looked at after it.
+
+use super::gauge;
+use crate::sheet::{Sheet, COLOUR, STRAIGHT};
+use pralakuon::entries;
+use std::hint::black_box;
+use std::thread;
+
+/// More than any entry can need.
+const PAINTED: usize = 256 << 10;
+const PAINT: u8 = 0xa5;
+
+/// More than the functions need that paint and look.
+const OWN: usize = 512;
+
+/// On a thread of its own, whose stack is there as a whole.
+pub fn run() {
+    let work = thread::Builder::new().stack_size(8 * PAINTED).spawn(print).expect("a thread");
+    work.join().expect("its end");
+}
+
+fn print() {
+    let templates = templates();
+    let sheets: Vec<_> = templates.iter().map(|template| sheet(template)).collect();
+    let record = gauge().write();
+    let mut out = vec![0; 1 << 20];
+    println!("| entry | stack, bytes at most |\n|---|---|");
+    for (name, settings) in [("plain", 0), ("straight", COLOUR | STRAIGHT)] {
+        let used = most(&templates, |template| entries::line(template, settings, &record, &mut out));
+        println!("| `pralakuon_line`, {name} | {used} |");
+    }
+    println!("| `pralakuon_session` | {} |", most(&sheets, |sheet| entries::session(sheet, &mut out)));
+    println!("| `pralakuon_check` | {} |", most(&templates, entries::check));
+    println!("| `pralakuon_timestamp` | {} |", most(&templates, entries::timestamp));
+    println!("| `pralakuon_builtin` | {} |", most(&[vec![]], |_| entries::builtin(1, 1, 1, 1, &mut out)));
+}
+
+/// Deep ones, long ones, and both: calls go down with depth and along with members.
+fn templates() -> Vec<Vec<u8>> {
+    let around = |inner: String, depth: usize| (0..depth).fold(inner, |inner, _| format!("{{[{{l}}{inner}%bold%>12}}"));
+    let deep = around("{s:>9}".to_string(), 7);
+    let broad = format!("{{[{}%red}}", "{s:bold}".repeat(62));
+    let both = around(format!("{{{}%red}}", "{s:bold}".repeat(44)), 6);
+    let after = "x{l}".repeat(21) + &deep;
+    [deep, broad, both, after, "{s}".repeat(64), "{".repeat(1024), "{ff:bold:red:>12}{s}".to_string()]
+        .into_iter()
+        .map(String::into_bytes)
+        .collect()
+}
+
+fn sheet(template: &[u8]) -> Vec<u8> {
+    Sheet { settings: COLOUR | STRAIGHT, template: template.to_vec(), records: vec![gauge(); 3] }.write()
+}
+
+fn most(inputs: &[Vec<u8>], mut call: impl FnMut(&[u8]) -> u64) -> usize {
+    inputs.iter().map(|input| used(|| call(input))).max().unwrap_or(0)
+}
+
+/// Bytes of stack that a call changed, below this function's own.
+#[inline(never)]
+fn used(call: impl FnOnce() -> u64) -> usize {
+    let here = 0u8;
+    let top = std::ptr::addr_of!(here) as usize;
+    paint(top);
+    black_box(call());
+    top - lowest_changed(top)
+}
+
+/// Paints what lies below, but for the frame of this function itself.
+#[inline(never)]
+fn paint(top: usize) {
+    for place in top - PAINTED..top - OWN {
+        // Volatile, so that writing what is never read is not left out.
+        unsafe { (place as *mut u8).write_volatile(PAINT) };
+    }
+}
+
+#[inline(never)]
+fn lowest_changed(top: usize) -> usize {
+    let painted = |place: &usize| unsafe { (*place as *const u8).read_volatile() } == PAINT;
+    (top - PAINTED..top - OWN).find(|place| !painted(place)).unwrap_or(top)
+}
