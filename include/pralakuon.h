@@ -1,7 +1,8 @@
 /* Pralakuon: log records turned into lines that can be trusted to the byte.
  *
  * Every call takes numbers and lent bytes and can be given any bytes: it never reads or writes outside what it was lent, keeps nothing, and
- * needs no memory of its own but stack. Link the archive libpralakuon_c.a.
+ * needs no memory of its own but stack. What is lent must be there for its whole length, and `out` must overlap nothing else that is lent; what
+ * has no length may be null. Calls on different memory may run at the same time. Link the archive libpralakuon_c.a.
  *
  * Each call answers one number: a refusal's number in the low eight bits (0: none), a length in the others. The length is given with a line
  * and with refusal 13 only. A refusal leaves lent memory as it was found; an accepted line changes only its own bytes at the front.

@@ -1,0 +1,130 @@
+//! Which template and which settings a formatter works by.
+
+use crate::template::{builtin, Style};
+use crate::Settings;
+
+/// The template: one of the built-in ones, or one's own.
+///
+/// ```
+/// use pralakuon::FormatterFormat;
+///
+/// let chosen = FormatterFormat::from_string("oneline", true);
+/// assert_eq!(chosen, Some(FormatterFormat::OneLine { with_location: true }));
+/// assert_eq!(FormatterFormat::from_string("[{L}] {s}", true), None);
+/// ```
+#[derive(Clone, Copy, Debug, PartialEq, Eq, Hash)]
+#[non_exhaustive]
+pub enum FormatterFormat<'a> {
+    /// Level and message; the location stands in a second line of its own.
+    Default {
+        /// The location is shown.
+        with_location: bool,
+    },
+    /// Level in brackets and message; the location follows in the same line.
+    OneLine {
+        /// The location is shown.
+        with_location: bool,
+    },
+    /// A template of one's own. It is read as it stands: `default` and `oneline` are text here.
+    Custom(&'a str),
+}
+
+impl FormatterFormat<'static> {
+    /// The built-in format of that name, if there is one.
+    pub fn from_string(s: &str, with_location: bool) -> Option<FormatterFormat<'static>> {
+        match s {
+            "default" => Some(FormatterFormat::Default { with_location }),
+            "oneline" => Some(FormatterFormat::OneLine { with_location }),
+            _ => None,
+        }
+    }
+
+    /// The names that [`from_string`](FormatterFormat::from_string) knows.
+    ///
+    /// ```
+    /// use pralakuon::FormatterFormat;
+    ///
+    /// for name in FormatterFormat::get_options() {
+    ///     assert!(FormatterFormat::from_string(name, false).is_some());
+    /// }
+    /// ```
+    pub fn get_options() -> impl Iterator<Item = &'static str> {
+        ["default", "oneline"].into_iter()
+    }
+}
+
+impl Default for FormatterFormat<'_> {
+    fn default() -> Self {
+        FormatterFormat::Default { with_location: false }
+    }
+}
+
+/// What a [`Formatter`](crate::Formatter) or a [`HostFormatter`](crate::HostFormatter) works by.
+///
+/// ```
+/// use pralakuon::{Formatter, FormatterConfig, FormatterFormat, Level, Record, Settings};
+///
+/// let config = FormatterConfig { format: FormatterFormat::OneLine { with_location: false }, ..FormatterConfig::default() }
+///     .with_timestamp()
+///     .with_settings(Settings::PLAIN);
+/// let record = Record { timestamp: "0.5", ..Record::new(Level::Info, "hello") };
+/// assert_eq!(Formatter::new(config)?.format(&record)?, "0.5 [INFO ] hello");
+/// # Ok::<(), pralakuon::Refusal>(())
+/// ```
+#[derive(Clone, Copy, Debug, Default, PartialEq, Eq, Hash)]
+pub struct FormatterConfig<'a> {
+    /// The template.
+    pub format: FormatterFormat<'a>,
+    /// A built-in template shows the time. A template of one's own says so itself, with `{t}`.
+    pub is_timestamp_available: bool,
+    /// Colour.
+    pub settings: Settings,
+}
+
+impl<'a> FormatterConfig<'a> {
+    /// By a template of one's own, or by the name of a built-in one, which then shows the location.
+    ///
+    /// ```
+    /// use pralakuon::{FormatterConfig, FormatterFormat};
+    ///
+    /// assert_eq!(FormatterConfig::custom("[{L}] {s}").format, FormatterFormat::Custom("[{L}] {s}"));
+    /// assert_eq!(FormatterConfig::custom("oneline").format, FormatterFormat::OneLine { with_location: true });
+    /// ```
+    pub fn custom(format: &'a str) -> Self {
+        let format = FormatterFormat::from_string(format, true).unwrap_or(FormatterFormat::Custom(format));
+        FormatterConfig { format, ..FormatterConfig::default() }
+    }
+
+    /// With the time, for built-in templates.
+    pub fn with_timestamp(mut self) -> Self {
+        self.is_timestamp_available = true;
+        self
+    }
+
+    /// With the location, for built-in templates.
+    pub fn with_location(mut self) -> Self {
+        match &mut self.format {
+            FormatterFormat::Default { with_location } | FormatterFormat::OneLine { with_location } => {
+                *with_location = true;
+            }
+            FormatterFormat::Custom(_) => {}
+        }
+        self
+    }
+
+    /// With these settings.
+    pub fn with_settings(mut self, settings: Settings) -> Self {
+        self.settings = settings;
+        self
+    }
+
+    /// The template's text, for the host's records or for the device's.
+    pub(crate) fn template(&self, host: bool) -> String {
+        let timestamp = self.is_timestamp_available;
+        match self.format {
+            FormatterFormat::Default { with_location } => builtin(Style::Default, with_location, timestamp, host),
+            FormatterFormat::OneLine { with_location } => builtin(Style::OneLine, with_location, timestamp, host),
+            FormatterFormat::Custom(template) => template.to_string(),
+        }
+    }
+}

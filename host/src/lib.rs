@@ -1,0 +1,102 @@
+//! Log records turned into lines that can be trusted to the byte.
+//!
+//! A template says how lines look, a record says what happened. The line is made by the archive `libpralakuon_c.a`, in
+//! which every function is proved to meet its contract; this crate hands it records and templates and hands its answers
+//! back. It decides nothing about a line itself.
+//!
+//! # From a record to a line
+//!
+//! ```
+//! use pralakuon::{Formatter, FormatterConfig, Level, Record};
+//!
+//! let formatter = Formatter::new(FormatterConfig::custom("{t} [{L}] {s}"))?;
+//! let record = Record { timestamp: "0.002500", ..Record::new(Level::Info, "wall B3 crack 0.412 mm") };
+//! assert_eq!(formatter.format(&record)?, "0.002500 [INFO ] wall B3 crack 0.412 mm");
+//! # Ok::<(), pralakuon::Refusal>(())
+//! ```
+//!
+//! The template is checked once, by [`Formatter::new`]. Where there is no line there is a [`Refusal`], which says why.
+//! [`Formatter::format_into`] writes into a lent buffer and allocates nothing. The host's own records have a type of
+//! their own, [`HostRecord`], and a [`HostFormatter`].
+//!
+//! # Straight columns
+//!
+//! The crate defmt-decoder, whose templates these are, takes what it writes for colour off the padding of a group. A
+//! padded bold group came out shorter in colour than plain, and the columns after it slid. Straight mode doesn't count
+//! colour, so that a coloured line without its colour is the plain line.
+//!
+//! ```
+//! use pralakuon::{Formatter, FormatterConfig, Level, Record, Refusal, Settings};
+//!
+//! // What is seen of a line: all but its colour sequences, from ESC to `m`.
+//! fn visible(line: &str) -> String {
+//!     let mut parts = line.split('\x1b');
+//!     let before = parts.next().into_iter();
+//!     before.chain(parts.map(|part| part.split_once('m').map_or(part, |(_, text)| text))).collect()
+//! }
+//!
+//! fn shown(settings: Settings) -> Result<String, Refusal> {
+//!     let config = FormatterConfig::custom("{[{L}]%bold%<9}|{s}").with_settings(settings);
+//!     let line = Formatter::new(config)?.format(&Record::new(Level::Error, "hello"))?;
+//!     Ok(visible(&line))
+//! }
+//!
+//! assert_eq!(shown(Settings::PLAIN)?, "[ERROR]  |hello");
+//! assert_eq!(shown(Settings::CRATE_COLOUR)?, "[ERROR]|hello");
+//! assert_eq!(shown(Settings::STRAIGHT_COLOUR)?, "[ERROR]  |hello");
+//! # Ok::<(), Refusal>(())
+//! ```
+//!
+//! # Session sheets
+//!
+//! A sheet holds a template and records, so that the same lines can be made of them years later. [`SheetWriter`] writes
+//! one, [`Sheet`] reads one, and [`session()`] gives all its lines.
+//!
+//! ```
+//! use pralakuon::{session, Formatter, FormatterConfig, HostRecord, Level, Record, SheetWriter};
+//!
+//! let formatter = Formatter::new(FormatterConfig::custom("[{L}] {s}"))?;
+//! let mut sheet = SheetWriter::new(formatter.settings(), formatter.template().as_bytes())?;
+//! sheet.push(&Record::new(Level::Warn, "wheel slipped"))?;
+//! sheet.push(&HostRecord::new(Level::Debug, "sheet closed"))?;
+//! assert_eq!(session(&sheet.finish()), b"[WARN ] wheel slipped\n[DEBUG] sheet closed\n");
+//! # Ok::<(), pralakuon::Refusal>(())
+//! ```
+
+#![deny(missing_docs)]
+#![deny(unsafe_code)]
+#![deny(unsafe_op_in_unsafe_fn)]
+
+mod bytes;
+mod config;
+// The one place where the archive is called.
+#[allow(unsafe_code)]
+pub mod entries;
+mod formatter;
+mod level;
+mod line;
+mod raw;
+mod record;
+mod refusal;
+mod room;
+mod session;
+mod settings;
+mod sheet;
+mod template;
+
+pub use config::{FormatterConfig, FormatterFormat};
+pub use formatter::{Formatter, HostFormatter};
+pub use level::Level;
+pub use line::line;
+pub use raw::RawRecord;
+pub use record::{HostRecord, Record};
+pub use refusal::Refusal;
+pub use session::{session, session_into};
+pub use settings::Settings;
+pub use sheet::{Sheet, SheetWriter};
+pub use template::{check, names_timestamp};
+
+// So that the README's example is run too.
+#[cfg(doctest)]
+#[doc = include_str!("../README.md")]
+struct Readme;

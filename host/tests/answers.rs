@@ -1,0 +1,88 @@
+//! The stored answers of the crate itself (oracle/answers.list), through the archive as it is linked here.
+
+mod common;
+
+use common::told;
+use pralakuon::{check, line, session, Refusal, Sheet, SheetWriter};
+
+const LIST: &[u8] = include_bytes!("../../oracle/answers.list");
+
+/// A refusal's number for cases that the port refuses, 0 for those that it prints alike, 255 for other listed differences.
+struct Case {
+    number: u8,
+    sheet: &'static [u8],
+    output: &'static [u8],
+}
+
+fn split(bytes: &mut &'static [u8], count: usize) -> &'static [u8] {
+    let (taken, rest) = bytes.split_at(count);
+    *bytes = rest;
+    taken
+}
+
+fn part(bytes: &mut &'static [u8]) -> &'static [u8] {
+    let length = u32::from_le_bytes(split(bytes, 4).try_into().unwrap());
+    split(bytes, length as usize)
+}
+
+fn cases() -> Vec<Case> {
+    let header = LIST.windows(2).position(|two| two == b"\n\n").expect("a header and an empty line") + 2;
+    let told = std::str::from_utf8(&LIST[..header]).unwrap();
+    let count = told.lines().find_map(|line| line.strip_prefix("Cases: ")).expect("the number of cases");
+    let mut rest = &LIST[header..];
+    let mut cases = Vec::new();
+    while !rest.is_empty() {
+        let number = split(&mut rest, 1)[0];
+        cases.push(Case { number, sheet: part(&mut rest), output: part(&mut rest) });
+    }
+    assert_eq!(cases.len(), count.parse().unwrap());
+    cases
+}
+
+#[test]
+fn a_session_prints_what_the_crate_prints() {
+    let mut compared = 0;
+    for Case { number, sheet, output } in cases() {
+        match number {
+            0 => assert!(session(sheet) == output, "{:?}", String::from_utf8_lossy(sheet)),
+            255 => continue,
+            _ => assert_eq!(session(sheet), told(number), "{:?}", String::from_utf8_lossy(sheet)),
+        }
+        compared += 1;
+    }
+    assert!(compared > 4_000, "only {compared} cases were compared");
+}
+
+/// What a session prints, put together from line calls.
+fn one_by_one(sheet: &Sheet) -> Vec<u8> {
+    if let Err(refusal) = check(sheet.template) {
+        return told(refusal.number());
+    }
+    let mut out = vec![0; 65_536];
+    let mut printed = Vec::new();
+    for record in &sheet.records {
+        match line(sheet.template, sheet.settings, record, &mut out) {
+            Ok(length) => printed.extend([&out[..length], b"\n"].concat()),
+            Err(refusal) => printed.extend(told(refusal.number())),
+        }
+    }
+    printed
+}
+
+#[test]
+fn a_session_is_its_lines() {
+    for Case { sheet, .. } in cases() {
+        assert!(one_by_one(&Sheet::read(sheet).unwrap()) == session(sheet), "{:?}", String::from_utf8_lossy(sheet));
+    }
+}
+
+#[test]
+fn every_sheet_is_written_as_it_was_read() -> Result<(), Refusal> {
+    for Case { sheet, .. } in cases() {
+        let read = Sheet::read(sheet)?;
+        let mut writer = SheetWriter::new(read.settings, read.template)?;
+        read.records.iter().try_for_each(|record| writer.push(record))?;
+        assert!(writer.finish() == sheet);
+    }
+    Ok(())
+}

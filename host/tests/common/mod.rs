@@ -1,0 +1,59 @@
+//! What several tests need.
+#![allow(dead_code)] // Each test file is a crate of its own and takes what it needs.
+
+use pralakuon::{line, session, RawRecord, Refusal, Settings};
+
+/// What lent memory holds before a call.
+pub const PAINT: u8 = 0xa5;
+
+/// The line of a record in a buffer with room to spare. Checks on the way that a refusal left the buffer as it was, and
+/// that a line changed nothing behind itself.
+pub fn line_of<'r>(template: &[u8], settings: Settings, record: impl Into<RawRecord<'r>>) -> Result<Vec<u8>, Refusal> {
+    let mut out = vec![PAINT; 300_000];
+    let answer = line(template, settings, record, &mut out);
+    let changed = answer.unwrap_or(0);
+    assert!(out[changed..].iter().all(|&byte| byte == PAINT), "memory behind the line was changed");
+    out.truncate(changed);
+    answer.map(|_| out)
+}
+
+/// A device's INFO record with the message `hello`.
+pub fn hello() -> RawRecord<'static> {
+    RawRecord { level: 3, message: b"hello", ..RawRecord::default() }
+}
+
+/// The body of a device's INFO record, laid out by hand.
+pub fn hand_laid(message: &[u8]) -> Vec<u8> {
+    let length = (message.len() as u16).to_le_bytes();
+    [&[0, 3, 0, 0, 0, 0, 0, 0, 0, 0, 0, 0, 0], &length[..], message].concat()
+}
+
+/// The outer layout of a sheet from any bodies, so that wrong ones can be written as well.
+pub fn sheet_of(bodies: &[&[u8]]) -> Vec<u8> {
+    let mut sheet = (bodies.len() as u16).to_le_bytes().to_vec();
+    for body in bodies {
+        sheet.extend((body.len() as u32).to_le_bytes());
+    }
+    sheet.extend(bodies.concat());
+    sheet
+}
+
+/// What the program prints for a refusal.
+pub fn told(number: u8) -> Vec<u8> {
+    format!("! {number}\n").into_bytes()
+}
+
+/// The archive says that this is no sheet. Only a record that says `! 15` itself could be taken for that.
+pub fn archive_refuses(sheet: &[u8]) -> bool {
+    session(sheet) == told(15)
+}
+
+/// What is seen of a line whose only bytes 27 are those of colour: all but the sequences from there to `m`.
+pub fn visible(line: &str) -> String {
+    let mut parts = line.split('\x1b');
+    let mut seen = parts.next().unwrap_or("").to_string();
+    for part in parts {
+        seen.push_str(part.split_once('m').expect("a colour sequence ends with m").1);
+    }
+    seen
+}

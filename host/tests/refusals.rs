@@ -1,0 +1,327 @@
+//! Every refusal at its limit, and what is just inside it.
+
+mod common;
+
+use common::{archive_refuses, hand_laid, hello, line_of, sheet_of, told};
+use pralakuon::{
+    check, names_timestamp, session, Formatter, FormatterConfig, FormatterFormat, HostFormatter, HostRecord, Level,
+    RawRecord, Record, Refusal, Settings, Sheet, SheetWriter,
+};
+
+/// A sheet of two records.
+fn sheet_with(template: &[u8]) -> Vec<u8> {
+    let mut writer = SheetWriter::new(Settings::PLAIN, template).unwrap();
+    writer.push(hello()).unwrap();
+    writer.push(hello()).unwrap();
+    writer.finish()
+}
+
+fn config(template: &str) -> FormatterConfig<'_> {
+    FormatterConfig { format: FormatterFormat::Custom(template), ..FormatterConfig::default() }
+}
+
+/// Every way to give a template refuses it with this number.
+fn refused(number: u8, template: impl AsRef<[u8]>) {
+    let template = template.as_ref();
+    let refusal = Refusal::from_number(number).unwrap();
+    assert_eq!(check(template), Err(refusal), "{template:?}");
+    assert_eq!(names_timestamp(template), Err(refusal));
+    assert_eq!(line_of(template, Settings::PLAIN, hello()), Err(refusal));
+    assert_eq!(session(&sheet_with(template)), told(number));
+    if let Ok(template) = std::str::from_utf8(template) {
+        assert_eq!(Formatter::new(config(template)), Err(refusal));
+        assert_eq!(HostFormatter::new(config(template)), Err(refusal));
+    }
+}
+
+/// Every way to give a template reads it, and this is the line of `hello`.
+fn read(template: &str, line: &str) {
+    assert_eq!(check(template.as_bytes()), Ok(()), "{template:?}");
+    assert_eq!(line_of(template.as_bytes(), Settings::PLAIN, hello()), Ok(line.into()));
+    assert_eq!(session(&sheet_with(template.as_bytes())), format!("{line}\n{line}\n").into_bytes());
+    let record = Record::new(Level::Info, "hello");
+    assert_eq!(Formatter::new(config(template)).unwrap().format(&record).as_deref(), Ok(line));
+}
+
+#[test]
+fn r01_a_template_of_1025_bytes() {
+    let template = |bytes: usize| "x".repeat(bytes - 3) + "{s}";
+    read(&template(1_024), &("x".repeat(1_021) + "hello"));
+    refused(1, template(1_025));
+}
+
+#[test]
+fn r02_a_template_that_is_not_utf8() {
+    read("{s}é", "helloé");
+    refused(2, b"{s}\xc3");
+    refused(2, b"{s}\xff");
+}
+
+#[test]
+fn r03_a_template_on_which_reading_fails() {
+    read("{s:bold:underline:italic}", "hello");
+    refused(3, "{s:bold:bold}");
+    refused(3, "{}");
+    refused(3, "{{[{L}]} x} {s}");
+}
+
+#[test]
+fn r04_a_template_without_the_message() {
+    read("{{s}}", "hello");
+    refused(4, "{t}");
+    refused(4, "");
+    refused(4, "{s");
+    refused(4, "oneline");
+}
+
+#[test]
+fn r05_a_65th_segment() {
+    let template = |segments: usize| "{l:1}".repeat(segments - 1) + "{s}";
+    read(&template(64), &("0".repeat(63) + "hello"));
+    refused(5, template(65));
+}
+
+#[test]
+fn r06_a_brace_at_depth_9() {
+    let template = |depth: usize| "{a{L}".repeat(depth - 1) + "{s}" + &"}".repeat(depth - 1);
+    read(&template(8), &("aINFO ".repeat(7) + "hello"));
+    refused(6, template(9));
+}
+
+#[test]
+fn r07_a_width_of_513() {
+    read("{s:512}", &("hello".to_string() + &" ".repeat(507)));
+    refused(7, "{s:513}");
+    refused(7, "{s:99999999999999999999999999}");
+}
+
+#[test]
+fn r08_a_name_of_256_f() {
+    let template = |count: usize| format!("{{{}}}{{s}}", "f".repeat(count));
+    read(&template(255), "<file>hello");
+    refused(8, template(256));
+}
+
+#[test]
+fn r09_a_backslash_at_the_end_of_a_search() {
+    read("{s}\\", "hello\\");
+    refused(9, "{s\\");
+}
+
+#[test]
+fn r10_a_name_beside_a_letter_that_is_not_ascii() {
+    read("{s é}", "hello");
+    refused(10, "{sé}");
+    refused(10, format!("{{{}é}}{{s}}", "f".repeat(256)));
+}
+
+/// A record with this text in the field of this number, in the order in which fields are checked.
+fn with_field<'a>(field: usize, text: &'a [u8]) -> RawRecord<'a> {
+    let mut record = RawRecord { mask: RawRecord::FILE | RawRecord::MODULE, ..hello() };
+    match field {
+        0 => record.file = text,
+        1 => record.module_path = text,
+        2 => record.timestamp = text,
+        _ => record.message = text,
+    }
+    record
+}
+
+#[test]
+fn r11_a_field_of_4097_bytes() {
+    let answer = |field, text: &[u8]| line_of(b"{F}{m}{t}{s}", Settings::PLAIN, with_field(field, text));
+    for field in 0..4 {
+        let longest = [b'x'; 4_096];
+        let line = answer(field, &longest).unwrap();
+        assert!(line.windows(longest.len()).any(|part| part == longest), "field {field} is shown whole");
+        // 70,000 bytes and their length modulo 65,536 are both over the limit; 65,541 bytes would pass for 5.
+        for bytes in [4_097, 4_098, 65_535, 65_536, 65_541, 70_000] {
+            assert_eq!(answer(field, &vec![b'x'; bytes]), Err(Refusal::FieldTooLong), "field {field}, {bytes} bytes");
+        }
+        // Too long comes before not UTF-8, also where only the cut splits a character.
+        assert_eq!(answer(field, "é".repeat(35_000).as_bytes()), Err(Refusal::FieldTooLong));
+        assert_eq!(answer(field, &[0xff; 4_097]), Err(Refusal::FieldTooLong));
+    }
+}
+
+#[test]
+fn r11_through_the_formatters() {
+    let device = Formatter::new(config("{F}{m}{t}{s}")).unwrap();
+    let host = HostFormatter::new(config("{F}{m}{t}{s}")).unwrap();
+    let [fits, long] = [4_096, 70_000].map(|bytes| "x".repeat(bytes));
+    let (record, host_record) = (Record::new(Level::Info, ""), HostRecord::new(Level::Info, ""));
+    let records = |text| {
+        [
+            Record { file: Some(text), ..record },
+            Record { module_path: Some(text), ..record },
+            Record { timestamp: text, ..record },
+            Record { message: text, ..record },
+        ]
+    };
+    let host_records = |text| {
+        [
+            HostRecord { file: Some(text), ..host_record },
+            HostRecord { module_path: Some(text), ..host_record },
+            HostRecord { message: text, ..host_record },
+        ]
+    };
+    assert!(records(&fits).iter().all(|record| device.format(record).unwrap().contains(&fits)));
+    assert!(host_records(&fits).iter().all(|record| host.format(record).unwrap().contains(&fits)));
+    assert!(records(&long).iter().all(|record| device.format(record) == Err(Refusal::FieldTooLong)));
+    assert!(host_records(&long).iter().all(|record| host.format(record) == Err(Refusal::FieldTooLong)));
+}
+
+#[test]
+fn r12_a_field_that_is_not_utf8() {
+    let answer = |field, text: &[u8]| line_of(b"{s}", Settings::PLAIN, with_field(field, text));
+    for field in 0..4 {
+        assert!(answer(field, "é".as_bytes()).is_ok());
+        for text in [&b"\xc3"[..], b"\xff", b"\xed\xa0\x80"] {
+            assert_eq!(answer(field, text), Err(Refusal::FieldNotUtf8), "field {field}");
+        }
+    }
+}
+
+#[test]
+fn r12_and_11_are_met_field_by_field() {
+    let long = [b'x'; 4_097];
+    let first = RawRecord { message: &long, ..with_field(0, b"\xff") };
+    assert_eq!(line_of(b"{s}", Settings::PLAIN, first), Err(Refusal::FieldNotUtf8));
+    let first = RawRecord { message: b"\xff", ..with_field(0, &long) };
+    assert_eq!(line_of(b"{s}", Settings::PLAIN, first), Err(Refusal::FieldTooLong));
+}
+
+#[test]
+fn r13_in_a_session_a_line_of_65537_bytes() {
+    // Sixteen messages of 4,096 bytes are 65,536, the program's line buffer.
+    let printed = |template: String| {
+        let mut writer = SheetWriter::new(Settings::PLAIN, template.as_bytes()).unwrap();
+        writer.push(RawRecord { message: &[b'm'; 4_096], ..hello() }).unwrap();
+        writer.push(hello()).unwrap();
+        session(&writer.finish())
+    };
+    let longest = printed("{s}".repeat(16));
+    assert_eq!(longest, ["m".repeat(65_536), "\n".into(), "hello".repeat(16), "\n".into()].concat().into_bytes());
+    assert_eq!(printed("{s}".repeat(16) + "x"), format!("! 13\n{}x\n", "hello".repeat(16)).into_bytes());
+}
+
+#[test]
+fn r14_a_record_that_cannot_be() {
+    let (device, host) = (hello(), RawRecord { source: RawRecord::HOST, ..hello() });
+    let possible = [
+        RawRecord { level: 0, ..device },
+        RawRecord { level: 5, ..device },
+        RawRecord { level: 1, ..host },
+        RawRecord { level: 5, ..host },
+        RawRecord { mask: 7, line: u32::MAX, file: b"f", module_path: b"m", ..device },
+        RawRecord { mask: 7, ..device },
+    ];
+    for record in possible {
+        assert!(line_of(b"{s}", Settings::PLAIN, record).is_ok(), "{record:?}");
+    }
+    let impossible = [
+        RawRecord { source: 2, ..device },
+        RawRecord { level: 6, ..device },
+        RawRecord { level: 6, ..host },
+        RawRecord { level: 0, ..host },
+        RawRecord { mask: 8, ..device },
+        RawRecord { mask: 6, file: b"f", ..device },
+        RawRecord { mask: 5, line: 1, ..device },
+        RawRecord { mask: 3, module_path: b"m", ..device },
+        // 14 comes before what is wrong with a text, also with one that had to be cut.
+        RawRecord { mask: 6, file: &[0xff; 70_000], ..device },
+    ];
+    for record in impossible {
+        assert_eq!(line_of(b"{s}", Settings::PLAIN, record), Err(Refusal::NotARecord), "{record:?}");
+    }
+}
+
+#[test]
+fn r15_a_sheet_of_65537_bytes() {
+    // Contents of five bodies, the settings byte and `{s}`, four heads of records: the rest is texts.
+    let texts = 65_536 - (2 + 4 * 5 + 4 + 4 * 15);
+    let messages = |bytes: usize| {
+        let last = bytes - 3 * 4_096;
+        [4_096, 4_096, 4_096, last].map(|bytes| vec![b'm'; bytes])
+    };
+    let written = |messages: &[Vec<u8>]| {
+        let mut writer = SheetWriter::new(Settings::PLAIN, b"{s}")?;
+        messages.iter().try_for_each(|message| writer.push(RawRecord { message, ..hello() }))?;
+        Ok(writer.finish())
+    };
+    let by_hand = |messages: &[Vec<u8>]| {
+        let bodies: Vec<_> = messages.iter().map(|message| hand_laid(message)).collect();
+        sheet_of(&[&b"\0{s}"[..], &bodies[0], &bodies[1], &bodies[2], &bodies[3]])
+    };
+
+    let largest = by_hand(&messages(texts));
+    assert_eq!(largest.len(), 65_536);
+    assert_eq!(written(&messages(texts)).as_ref(), Ok(&largest));
+    assert_eq!(Sheet::read(&largest).unwrap().records.len(), 4);
+    assert!(!archive_refuses(&largest));
+
+    let too_large = by_hand(&messages(texts + 1));
+    assert_eq!(too_large.len(), 65_537);
+    assert_eq!(written(&messages(texts + 1)), Err(Refusal::NotASheet));
+    assert_eq!(Sheet::read(&too_large), Err(Refusal::NotASheet));
+    assert!(archive_refuses(&too_large));
+}
+
+#[test]
+fn r15_the_writer_refuses_what_does_not_fit_and_goes_on() {
+    assert!(SheetWriter::new(Settings::PLAIN, &[b'x'; 65_529]).is_ok());
+    assert_eq!(SheetWriter::new(Settings::PLAIN, &[b'x'; 65_530]), Err(Refusal::NotASheet));
+
+    let mut writer = SheetWriter::new(Settings::PLAIN, b"{s}").unwrap();
+    writer.push(hello()).unwrap();
+    let before = writer.clone();
+    for bytes in [65_484, 65_535, 65_536, 70_000, 1 << 20] {
+        let record = RawRecord { message: &vec![b'm'; bytes], ..hello() };
+        assert_eq!(writer.push(record), Err(Refusal::NotASheet), "{bytes} bytes");
+        assert_eq!(writer, before);
+    }
+    writer.push(RawRecord { message: &[b'm'; 65_483], ..hello() }).unwrap();
+    assert_eq!(writer.size(), 65_536);
+    assert_eq!(session(&writer.finish()), b"hello\n! 11\n");
+}
+
+#[test]
+fn r15_bodies_run_out_of_room_before_they_run_out_of_numbers() {
+    let mut writer = SheetWriter::new(Settings::PLAIN, b"{s}").unwrap();
+    let empty = RawRecord { level: 3, ..RawRecord::default() };
+    let mut pushed = 0;
+    while writer.push(empty).is_ok() {
+        pushed += 1;
+    }
+    // Each record takes 19 bytes, 4 of them in the contents.
+    assert_eq!(pushed, (65_536 - 10) / 19);
+    assert_eq!(session(&writer.finish()), vec![b'\n'; pushed]);
+}
+
+#[test]
+fn numbers_and_names_are_those_of_the_header() {
+    let header = include_str!("../../include/pralakuon.h");
+    for number in 1..=15 {
+        let refusal = Refusal::from_number(number).unwrap();
+        assert_eq!(refusal.number(), number);
+        assert!(refusal.to_string().starts_with(&format!("refusal {number}: ")), "{refusal}");
+        // `LineTooLong { needed: 0 }` is PRALAKUON_LINE_TOO_LONG there.
+        let name = format!("{refusal:?}").split(' ').next().unwrap().to_string();
+        let line = header.lines().find(|line| line.contains(&format!(" = {number}"))).unwrap();
+        let in_header = line.split_whitespace().next().unwrap().trim_start_matches("PRALAKUON_").replace('_', "");
+        assert_eq!(name.to_uppercase(), in_header);
+    }
+    for number in (16..=255).chain([0]) {
+        assert_eq!(Refusal::from_number(number), None);
+    }
+}
+
+#[test]
+fn the_length_needed_is_told() {
+    assert_eq!(
+        Refusal::LineTooLong { needed: 13 }.to_string(),
+        "refusal 13: the line is longer than the buffer, 13 bytes are needed"
+    );
+    let unknown = Refusal::from_number(13).unwrap();
+    assert_eq!(unknown.to_string(), "refusal 13: the line is longer than the buffer");
+}

@@ -1,0 +1,209 @@
+//! Session sheets: written, read, damaged, printed.
+
+mod common;
+
+use common::{archive_refuses, hand_laid, sheet_of};
+use pralakuon::{
+    line, session, session_into, HostRecord, Level, RawRecord, Record, Refusal, Settings, Sheet, SheetWriter,
+};
+use std::fs;
+use std::path::Path;
+
+/// Document 01's example, byte for byte.
+const EXAMPLE: &[u8] = b"\x04\0\
+    \x0a\0\0\0\x14\0\0\0\x13\0\0\0\x0f\0\0\0\
+    \0[{L}] {s}\
+    \0\x01\0\0\0\0\0\0\0\0\0\0\0\x05\0hello\
+    \0\0\0\0\0\0\0\0\0\0\0\0\0\x04\0boot\
+    \x01\0\0\0\0\0\0\0\0\0\0\0\0\0\0";
+
+const SAMPLES: [&str; 3] = ["wall", "wall-crate", "wall-straight"];
+
+fn sample(name: &str) -> Vec<u8> {
+    let path = Path::new(env!("CARGO_MANIFEST_DIR")).join("../samples").join(name);
+    fs::read(&path).unwrap_or_else(|error| panic!("{}: {error}", path.display()))
+}
+
+fn written(sheet: &Sheet) -> Vec<u8> {
+    let mut writer = SheetWriter::new(sheet.settings, sheet.template).unwrap();
+    for record in &sheet.records {
+        writer.push(record).unwrap();
+    }
+    assert_eq!(writer.size(), writer.clone().finish().len());
+    writer.finish()
+}
+
+/// The reader and the archive say alike whether this is a sheet.
+fn judged_alike(bytes: &[u8]) -> bool {
+    let refused = archive_refuses(bytes);
+    match Sheet::read(bytes) {
+        Ok(sheet) => assert!(!refused && written(&sheet) == bytes, "the reader takes {bytes:?}"),
+        Err(refusal) => assert!(refused && refusal == Refusal::NotASheet, "the reader refuses {bytes:?}"),
+    }
+    refused
+}
+
+#[test]
+fn the_example_is_written_byte_for_byte_and_printed() {
+    let mut writer = SheetWriter::new(Settings::PLAIN, b"[{L}] {s}").unwrap();
+    writer.push(&Record::new(Level::Error, "hello")).unwrap();
+    writer.push(&Record::print("boot")).unwrap();
+    writer.push(RawRecord { source: RawRecord::HOST, level: 0, ..RawRecord::default() }).unwrap();
+    assert_eq!(writer.finish(), EXAMPLE);
+    assert_eq!(session(EXAMPLE), b"[ERROR] hello\nboot\n! 14\n");
+}
+
+#[test]
+fn the_example_is_read() {
+    let sheet = Sheet::read(EXAMPLE).unwrap();
+    assert_eq!((sheet.settings, sheet.template), (Settings::PLAIN, &b"[{L}] {s}"[..]));
+    let device = RawRecord { level: 1, message: b"hello", ..RawRecord::default() };
+    let print = RawRecord { message: b"boot", ..RawRecord::default() };
+    let host = RawRecord { source: 1, ..RawRecord::default() };
+    assert_eq!(sheet.records, [device, print, host]);
+}
+
+#[test]
+fn every_kind_of_record_comes_back() {
+    let device = Record {
+        level: Some(Level::Warn),
+        file: Some("/head/été.rs"),
+        line: Some(0x0102_0304),
+        module_path: Some("gauge::read"),
+        timestamp: "0.25",
+        message: "crack",
+    };
+    let host = HostRecord { line: Some(40), ..HostRecord::new(Level::Trace, "closed") };
+    let wrong = RawRecord {
+        source: 255,
+        level: 254,
+        mask: 253,
+        line: 0xfffe_fdfc,
+        file: &[0xff; 300],
+        module_path: &[0; 5_000],
+        timestamp: b"\xc3",
+        message: b"",
+    };
+    let mut writer = SheetWriter::new(Settings::STRAIGHT_COLOUR, b"\xff{").unwrap();
+    writer.push(&device).unwrap();
+    writer.push(&host).unwrap();
+    writer.push(wrong).unwrap();
+    let bytes = writer.finish();
+    let sheet = Sheet::read(&bytes).unwrap();
+    assert_eq!((sheet.settings, sheet.template), (Settings::STRAIGHT_COLOUR, &b"\xff{"[..]));
+    assert_eq!(sheet.records, [RawRecord::from(&device), RawRecord::from(&host), wrong]);
+    assert_eq!(written(&sheet), bytes);
+}
+
+#[test]
+fn samples_print_what_they_should() {
+    for name in SAMPLES {
+        let (sheet, printed) = (sample(&format!("{name}.sheet")), sample(&format!("{name}.txt")));
+        assert_eq!(session(&sheet), printed, "{name}");
+        assert!(!judged_alike(&sheet), "{name}");
+    }
+}
+
+#[test]
+fn the_lines_of_samples_one_by_one() {
+    for name in SAMPLES {
+        let bytes = sample(&format!("{name}.sheet"));
+        let sheet = Sheet::read(&bytes).unwrap();
+        let mut all = Vec::new();
+        for record in &sheet.records {
+            let mut out = [0; 1_000];
+            let length = line(sheet.template, sheet.settings, record, &mut out).unwrap();
+            all.extend(&out[..length]);
+            all.push(b'\n');
+        }
+        assert_eq!(all, sample(&format!("{name}.txt")), "{name}");
+    }
+}
+
+#[test]
+fn a_session_needs_no_more_room_than_its_length() {
+    let printed = sample("wall.txt");
+    let sheet = sample("wall.sheet");
+    let mut out = vec![0xa5; printed.len() + 9];
+    let short = printed.len() - 1;
+    assert_eq!(session_into(&sheet, &mut out[..short]), Err(Refusal::LineTooLong { needed: printed.len() }));
+    assert!(out.iter().all(|&byte| byte == 0xa5));
+    assert_eq!(session_into(&sheet, &mut out), Ok(printed.len()));
+    assert_eq!(out[..printed.len()], printed);
+    assert!(out[printed.len()..].iter().all(|&byte| byte == 0xa5));
+}
+
+#[test]
+fn a_session_of_a_megabyte_grows_to_it() {
+    let template = "{s}".repeat(60);
+    let mut writer = SheetWriter::new(Settings::PLAIN, template.as_bytes()).unwrap();
+    let message = "m".repeat(1_000);
+    while writer.push(&Record::print(&message)).is_ok() {}
+    while writer.push(&Record::new(Level::Info, "hello")).is_ok() {}
+    let sheet = writer.finish();
+    let records = Sheet::read(&sheet).unwrap().records;
+    let line = |raw: &RawRecord| raw.message.repeat(if raw.level == 0 { 1 } else { 60 });
+    let expected: Vec<u8> = records.iter().flat_map(|raw| [line(raw), b"\n".to_vec()].concat()).collect();
+    assert!(session(&sheet) == expected);
+}
+
+#[test]
+fn every_truncation_is_judged_alike() {
+    for name in SAMPLES {
+        let sheet = sample(&format!("{name}.sheet"));
+        for end in 0..sheet.len() {
+            assert!(judged_alike(&sheet[..end]), "{name} cut at {end} is no sheet");
+        }
+    }
+}
+
+#[test]
+fn every_change_of_a_byte_is_judged_alike() {
+    let contents = 2 + 4 * 4;
+    let mut refused = 0;
+    for place in 0..EXAMPLE.len() {
+        let mut sheet = EXAMPLE.to_vec();
+        for byte in (0..=255).filter(|&byte| byte != EXAMPLE[place]) {
+            sheet[place] = byte;
+            let no_sheet = judged_alike(&sheet);
+            assert!(no_sheet || place >= contents, "contents changed at {place} to {byte} still fit");
+            refused += usize::from(no_sheet);
+        }
+    }
+    // The contents, the settings' six unknown bits, the lengths of three records' texts.
+    assert_eq!(refused, contents * 255 + 252 + 3 * 8 * 255);
+}
+
+#[test]
+fn odd_sheets_are_judged_alike() {
+    let record = hand_laid(b"hello");
+    let longer = [&record[..], b"!"].concat();
+    let shorter = &record[..record.len() - 1];
+    let no_sheets = [
+        vec![],
+        vec![0],
+        vec![0, 0],
+        vec![1, 0],
+        sheet_of(&[]),
+        sheet_of(&[b""]),
+        sheet_of(&[b"\x04{s}"]),
+        sheet_of(&[b"\x80{s}"]),
+        sheet_of(&[b"\0{s}", b""]),
+        sheet_of(&[b"\0{s}", &record[..14]]),
+        sheet_of(&[b"\0{s}", &longer]),
+        sheet_of(&[b"\0{s}", shorter]),
+        sheet_of(&[b"\0{s}", &record, &longer]),
+        [sheet_of(&[b"\0{s}", &record]), vec![0]].concat(),
+        // Lengths whose sum runs over 32 bits to just what is there.
+        [&[3, 0, 4, 0, 0, 0, 0xff, 0xff, 0xff, 0xff, 1, 0, 0, 0][..], b"\0{s}"].concat(),
+        vec![0xff; 65_536],
+        vec![0; 70_000],
+    ];
+    for bytes in no_sheets {
+        assert!(judged_alike(&bytes), "{bytes:?}");
+    }
+    let sheets = [sheet_of(&[b"\0"]), sheet_of(&[b"\x03"]), sheet_of(&[b"\0{s}"]), sheet_of(&[b"\x02{s}", &record])];
+    for bytes in sheets {
+        assert!(!judged_alike(&bytes), "{bytes:?}");
+    }
+}
