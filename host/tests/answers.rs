@@ -1,11 +1,11 @@
-//! The stored answers of the crate itself (oracle/answers.list), through the archive as it is linked here.
+//! The stored answers of the crate itself (crates/replay/stdin), through the archive as it is linked here.
 
 mod common;
 
 use common::told;
 use pralakuon::{check, line, session, Refusal, Sheet, SheetWriter};
 
-const LIST: &[u8] = include_bytes!("../../oracle/answers.list");
+const LIST: &[u8] = include_bytes!("../../crates/replay/stdin");
 
 /// A refusal's number for cases that the port refuses, 0 for those that it prints alike, 255 for other listed differences.
 struct Case {

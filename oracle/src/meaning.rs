@@ -25,7 +25,7 @@ pub fn run(list: &str, crates: &str, folder: &str, step: usize) -> io::Result<()
     fs::create_dir_all(&specs)?;
     fs::write(Path::new(folder).join("src/lib.rt"), "// The meaning, computed on answers of the crate.\n")?;
     fs::write(specs.join("Lib.antt"), "pub mod Sampled\n")?;
-    fs::write(specs.join("Sampled.antt"), statement(&picked, &modules(Path::new(crates))?))?;
+    fs::write(specs.join("Sampled.antt"), statement(&picked, &computing(Path::new(crates))?))?;
     println!("{} of {} cases", picked.len(), all.len());
     Ok(())
 }
@@ -40,19 +40,10 @@ fn cases(list: &[u8]) -> Vec<Case> {
     told.map(|stored| Case { sheet: stored.sheet.to_vec(), output: output(&stored) }).collect()
 }
 
-/// The definitions that must unfold: (crate, file, names).
-fn modules(crates: &Path) -> io::Result<Vec<(String, String, Vec<String>)>> {
-    let mut found = Vec::new();
-    for krate in sorted(crates)? {
-        for file in sorted(&crates.join(&krate).join("specs")).unwrap_or_default() {
-            let Some(module) = file.strip_suffix(".antt") else { continue };
-            let names = unfoldable(&fs::read_to_string(crates.join(&krate).join("specs").join(&file))?);
-            if !names.is_empty() {
-                found.push((krate.clone(), module.to_string(), names));
-            }
-        }
-    }
-    Ok(found)
+/// The crates whose definitions have to be opened: each names what it computes by in its file `Computing`.
+fn computing(crates: &Path) -> io::Result<Vec<String>> {
+    let has = |krate: &String| crates.join(krate).join("specs/Computing.antt").exists();
+    Ok(sorted(crates)?.into_iter().filter(has).collect())
 }
 
 fn sorted(folder: &Path) -> io::Result<Vec<String>> {
@@ -62,40 +53,19 @@ fn sorted(folder: &Path) -> io::Result<Vec<String>> {
     Ok(names)
 }
 
-/// Of a mutual block one name stands for all.
-fn unfoldable(text: &str) -> Vec<String> {
-    let mut names = Vec::new();
-    let mut in_block = false;
-    for line in text.lines() {
-        let words: Vec<&str> = line.split_whitespace().collect();
-        match words[..] {
-            ["unfoldable", "mutual"] => in_block = true,
-            ["unfoldable", "pub", name, ":", ..] => names.push(name.to_string()),
-            ["pub", name, ":", ..] if in_block && line.starts_with("  ") => {
-                names.push(name.to_string());
-                in_block = false;
-            }
-            _ => {}
-        }
-    }
-    names
-}
-
-fn statement(picked: &[&Case], modules: &[(String, String, Vec<String>)]) -> String {
+fn statement(picked: &[&Case], crates: &[String]) -> String {
     let mut text = String::from(
         "-- The meaning, computed on answers of the crate.
 use Prim.Native.Nat.{ℕ}
 use mathlib.Core.List.{List, [], _∷_}
 use mathlib.Core.Path.{_≡_, refl}
-use Rattle.session.specs.Program.{output}
+use Rattle.outcomes.specs.Program.{output}
 ",
     );
-    let mut names = Vec::new();
-    for (krate, module, unfolded) in modules {
-        let alias = format!("{krate}-{module}");
-        writeln!(text, "use Rattle.{krate}.specs.{module} as {alias}").unwrap();
-        names.extend(unfolded.iter().map(|name| format!("{alias}.{name}")));
+    for krate in crates {
+        writeln!(text, "use Rattle.{krate}.specs.Computing as {krate}-computing").unwrap();
     }
+    let names: Vec<String> = crates.iter().map(|krate| format!("{krate}-computing.computes")).collect();
     writeln!(
         text,
         "

@@ -7,37 +7,32 @@ use native.Mathlib.Omega.{arith}
 use borrow.Author.Tests.{le-leb, lt-leb, le-ltb, lt-ltb, leb-true}
 use lib.Dec.{leb}
 use lib.ListN.{length}
-use Rattle.text.specs.Buffer.{putAt}
-use Rattle.text.specs.Table.{Maybe, none, some}
-use Rattle.text.specs.Utf8.{valid}
+use Rattle.buffer.specs.Buffer.{putAt, written}
+use Rattle.buffer.specs.Table.{Maybe, none, some}
+use Rattle.utf8.specs.Utf8.{valid}
 use Rattle.refusals.specs.declared.Refusal.{Refusal}
-use Rattle.refusals.specs.Numbers.{number}
+use Rattle.refusals.specs.Numbers.{number, lengthWith}
 use Rattle.colour.specs.declared.Settings.{Settings}
 use Rattle.colour.specs.Shown.{textOf, joined}
 use Rattle.segments.specs.Segments.{LogSegments}
-use Rattle.template.specs.Template.{Template, read, refusal, readTemplate, topLevel, namesTimestamp}
+use Rattle.template.specs.Template.{Template, read, refusal, readTemplate, topLevel}
 use Rattle.record.specs.declared.Places.{Places}
-use Rattle.record.specs.Layout.{Laid, laidBy, laidOut, rightSize}
-use Rattle.record.specs.Checks.{recordRefusal, badlyMarked, fieldRefusal, fieldsRefusal, orNext, recordOf, levelOf, levelAt}
-use Rattle.record.proofs.Passing.{passes}
+use Rattle.record.specs.Layout.{Laid, laidOut, rightSize}
+use Rattle.record.specs.Placed.{laidBy}
+use Rattle.checks.specs.Checks.{recordRefusal, badlyMarked, fieldRefusal, fieldsRefusal, orNext}
+use Rattle.record.specs.Contents.{recordOf, levelOf, levelAt}
+use Rattle.checks.proofs.Passing.{passes}
 use Rattle.fields.specs.Lines.{recordShown, lineOf}
-use Rattle.line.specs.Places.{placesOf, recordBy, Short}
-use Rattle.line.specs.Texts.{segmentsText}
-use Rattle.line.specs.Rows.{Writable, written}
-use Rattle.answer.specs.declared.Answer.{Answer}
-use Rattle.answer.specs.Answers.{Outcome, line, refused, inRoom, passed, recordOutcome, bufferAfter, lengthWith, answerOf, packed, byTemplate, outcome, isCall, callOutcome, settingsOf}
-use Rattle.answer.specs.Templates.{timestampOf}
-use Rattle.answer.specs.Rooms.{answerIn, Packable, packedAnswer, Passed}
+use Rattle.leaves.specs.Places.{placesOf, recordBy, Short}
+use Rattle.rows.specs.Texts.{segmentsText}
+use Rattle.rows.specs.Rows.{Writable}
+use Rattle.packing.specs.declared.Answer.{Answer}
+use Rattle.answer.specs.Answers.{Outcome, line, refused, inRoom, passed, recordOutcome, bufferAfter, answerOf, packed, byTemplate, outcome, isCall, callOutcome}
+use Rattle.settings.specs.Bits.{settingsOf}
+use Rattle.answer.specs.Rooms.{Accepted}
+use Rattle.packing.specs.Packing.{answerIn, Packable, packedAnswer}
 
 -- ---- by the room
-
-pub in-whole : (room n : ℕ) → n ≤ room → Answer.Line n ≡ answerIn room n
-unfolding answerIn
-in-whole room n h = rw (le-leb n room h, answerIn)
-
-pub in-short : (room n : ℕ) → room < n → Answer.Refused (Refusal.LineTooLong n) ≡ answerIn room n
-unfolding answerIn
-in-short room n h = rw (lt-leb n room h, answerIn)
 
 pub answer-in-room : (room : ℕ) (x : List ℕ) → answerIn room (length x) ≡ answerOf (inRoom room x)
 unfolding answerIn inRoom answerOf
@@ -56,14 +51,6 @@ buffer-in-room d x = by (leb (length x) (length d))
         (bufferAfter d (elim b [ true ↦ line x | false ↦ refused (Refusal.LineTooLong (length x)) ]))
     by true = refl
     by false = refl
-
-pub packable-in : (room n : ℕ) → n < 2 ^ 56 → Packable (answerIn room n)
-unfolding answerIn Packable
-packable-in room n h = by (leb n room)
-  where
-    by : (b : Bool) → Packable (elim b [ true ↦ Answer.Line n | false ↦ Answer.Refused (Refusal.LineTooLong n) ])
-    by true = h
-    by false = h
 
 -- ---- by the checks
 
@@ -109,10 +96,6 @@ record-unsized l = by (badlyMarked l)
 pub refusal-unsized : (l : Laid) (r : Refusal) → recordRefusal l ≡ some r → lengthWith r ≡ 0
 refusal-unsized l r e = subst Unsized e (record-unsized l)
 
-pub packable-refused : (r : Refusal) → lengthWith r ≡ 0 → Packable (Answer.Refused r)
-unfolding Packable
-packable-refused r h = omega (arith, h)
-
 -- ---- the line
 
 pub line-print : (s : Settings) (t : List ℕ) (c : LogSegments) (l : Laid) → l .level ≡ 0 → lineOf s t c (recordOf l) ≡ l .message
@@ -141,7 +124,7 @@ texts-short l e =
     record { file = k .file .short; modulePath = k .modulePath .short; timestamp = k .timestamp .short; message = k .message .short }
 
 -- a row of the record's numbers
-module _ (cells t d : List ℕ) (n : ℕ) (p : Places) (numbers : List ℕ) (h : Passed cells t d n p) (e : placesOf numbers ≡ p) where
+module _ (cells t d : List ℕ) (n : ℕ) (p : Places) (numbers : List ℕ) (h : Accepted cells t d n p) (e : placesOf numbers ≡ p) where
   pub writable : 12 ≤ length numbers → Writable cells t d numbers n
   writable g = record {
     readable = record { pool = h .pool; few = h .read .few; twelve = g; places = rw e (h .places) };
@@ -226,14 +209,3 @@ module _ (settings : ℕ) (t d : List ℕ) (room : ℕ) where
   pub is-call : settings < 4 → rightSize d ≡ true → outcome (settingsOf settings) t (laidOut d) room ≡ callOutcome settings t d room
   unfolding callOutcome isCall
   is-call h e = rw (lt-ltb settings 4 h, e, callOutcome)
-
--- ---- a template alone
-
-module _ (t : List ℕ) (c : LogSegments) (e : readTemplate t ≡ read c) where
-  pub named : namesTimestamp c ≡ true → 256 ≡ timestampOf (readTemplate t)
-  unfolding timestampOf
-  named h = rw (e, timestampOf, h)
-
-  pub unnamed : namesTimestamp c ≡ false → 0 ≡ timestampOf (readTemplate t)
-  unfolding timestampOf
-  unnamed h = rw (e, timestampOf, h)

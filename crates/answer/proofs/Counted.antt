@@ -4,18 +4,20 @@ use mathlib.Core.Path.{_≡_, refl, ap}
 use mathlib.Core.List.{List}
 use native.Mathlib.Omega.{arith}
 use lib.ListN.{length}
-use Rattle.text.specs.Table.{none}
+use Rattle.buffer.specs.Table.{none}
 use Rattle.colour.specs.declared.Settings.{Settings}
 use Rattle.segments.specs.Segments.{LogSegments}
 use Rattle.segments.specs.Pool.{chainAt}
 use Rattle.record.specs.declared.Places.{Places}
-use Rattle.record.specs.Layout.{Laid, laidBy}
-use Rattle.record.specs.Checks.{recordOf, recordRefusal}
+use Rattle.record.specs.Layout.{Laid}
+use Rattle.record.specs.Placed.{laidBy}
+use Rattle.checks.specs.Checks.{recordRefusal}
+use Rattle.record.specs.Contents.{recordOf}
 use Rattle.fields.specs.Lines.{lineOf}
-use Rattle.line.specs.Texts.{segmentsText}
+use Rattle.rows.specs.Texts.{segmentsText}
 use Rattle.line.proofs.Bound.{segments-counted}
-use Rattle.line.proofs.Wordings.{wording-short}
-use Rattle.answer.specs.Rooms.{Passed}
+use Rattle.leaves.proofs.Wordings.{wording-short}
+use Rattle.answer.specs.Rooms.{Accepted}
 use Rattle.answer.proofs.Answering.{texts-short, line-print, line-level}
 
 line-by : (s : Settings) (t : List ℕ) (c : LogSegments) (l : Laid) → recordRefusal l ≡ none → length (segmentsText s t (recordOf l) c) < 2 ^ 56
@@ -24,7 +26,7 @@ line-by s t c l e h zero z = omega (arith, ap length (line-print s t c l z), tex
 line-by s t c l e h (suc n) z = omega (arith, ap length (line-level s t c l (λ y. omega (arith, y, z)) e), h)
 
 -- the line of a record that passed its checks
-pub line-counted : (s : Settings) (cells t d : List ℕ) (n : ℕ) (p : Places) → Passed cells t d n p
+pub line-counted : (s : Settings) (cells t d : List ℕ) (n : ℕ) (p : Places) → Accepted cells t d n p
     → length (lineOf s t (chainAt cells n) (recordOf (laidBy p d))) < 2 ^ 56
 line-counted s cells t d n p h =
     let l = laidBy p d in

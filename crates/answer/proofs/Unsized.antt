@@ -5,25 +5,25 @@ use mathlib.Core.Bool.{Bool, true, false, not, _||_}
 use mathlib.Core.List.{List}
 use lib.Dec.{leb, ltb}
 use lib.ListN.{length, replicate}
-use Rattle.text.specs.Bytes.{part, same}
-use Rattle.text.specs.Table.{Maybe, none, some, lookup}
-use Rattle.text.specs.Utf8.{valid}
+use Rattle.buffer.specs.Bytes.{part, same}
+use Rattle.buffer.specs.Table.{Maybe, none, some, lookup}
+use Rattle.utf8.specs.Utf8.{valid}
 use Rattle.refusals.specs.declared.Refusal.{Refusal}
 use Rattle.words.specs.declared.LogMetadata.{LogMetadata}
 use Rattle.words.specs.declared.Alignment.{Alignment}
-use Rattle.words.specs.Runs.{stands, runEnd, touches, lettersEnd, digitsEnd, decimal}
+use Rattle.runs.specs.Runs.{stands, runEnd, touches, lettersEnd, digitsEnd, decimal}
 use Rattle.words.specs.Trying.{Tried, fit, misfit, refused, _or-else_, _then_, while-it-fits, repeated, further, listed}
-use Rattle.words.specs.Words.{Sense, stands-for, nothing, not-allowed, sense, specifiers, fileName, repeatedF, orRepeatedF, specifierOf, parameterOf, sensed, nameTo, name, specifierAt, widthOf, digitsTo, aligned, alignments, byteAt, widthAt, parameterAt}
+use Rattle.words.specs.Words.{Sense, stands-for, nothing, not-allowed, sense, specifiers, countOfF, repeatedF, orRepeatedF, specifierOf, parameterOf, sensed, nameTo, name, specifierAt, widthOf, digitsTo, aligned, alignments, byteAt, widthAt, parameterAt}
 use Rattle.segments.specs.Segments.{LogSegment, LogSegments, anySpecifier, isLog, namedAmong}
 use Rattle.segments.specs.Segments as segments
 use Rattle.parts.specs.declared.Parts.{Parts}
 use Rattle.parts.specs.Parts.{noParts, hasSpecifier, segmentOf}
-use Rattle.template.specs.declared.Closing.{Closing}
-use Rattle.template.specs.Braces.{closing}
-use Rattle.template.specs.Reading.{Made, Reader, make, makeOr, textTo, textAt, plainByte, wordAt, innerAt, Taken, one, several, Content, oddItem, evenItem, built, noContent, itemAt, separator, contentAt, Group, percentAt, pieceAt, closed, noGroup, groupAt, braceTo, braceAt, insideAt, Top, topAt}
-use Rattle.template.specs.Reading as reading
+use Rattle.braces.specs.declared.Closing.{Closing}
+use Rattle.braces.specs.Braces.{closing}
+use Rattle.building.specs.Reading.{Made, Reader, make, makeOr, textTo, textAt, plainByte, wordAt, innerAt, Taken, one, several, Content, oddItem, evenItem, built, noContent, itemAt, separator, contentAt, Group, percentAt, pieceAt, closed, noGroup, groupAt, braceTo, braceAt, insideAt, Top, topAt}
+use Rattle.building.specs.Reading as reading
 use Rattle.template.specs.Template.{Template, read, refusal, withMessage, ended, topLevel, readTemplate}
-use Rattle.answer.specs.Answers.{lengthWith}
+use Rattle.refusals.specs.Numbers.{lengthWith}
 
 -- ---- attempts
 
@@ -93,14 +93,14 @@ sense-choice : {A : Type 0} (b : Bool) (x y : Sense A) → Senses x → Senses y
 sense-choice true x y h g = h
 sense-choice false x y h g = g
 
-file-name : (n : ℕ) → Senses (fileName n)
-unfolding fileName
+file-name : (n : ℕ) → Senses (countOfF n)
+unfolding countOfF
 file-name zero = tt
 file-name (suc n) = sense-choice (leb (suc n) 255) (stands-for (LogMetadata.FileName (suc n))) (not-allowed Refusal.TooManyF) tt refl
 
 repeated-f : (w : List ℕ) → Senses (repeatedF w)
 unfolding repeatedF
-repeated-f w = sense-choice (same (replicate (length w) 0x66) w) (fileName (length w)) nothing (file-name (length w)) tt
+repeated-f w = sense-choice (same (replicate (length w) 0x66) w) (countOfF (length w)) nothing (file-name (length w)) tt
 
 or-repeated : (w : List ℕ) (m : Maybe LogMetadata) → Senses (orRepeatedF w m)
 unfolding orRepeatedF

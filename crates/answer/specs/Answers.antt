@@ -4,17 +4,19 @@ use mathlib.Core.Bool.{Bool, true, false, _&&_}
 use mathlib.Core.List.{List, [], _∷_}
 use lib.Dec.{eqb, leb, ltb}
 use lib.ListN.{length}
-use Rattle.text.specs.Buffer.{putAt}
-use Rattle.text.specs.Table.{Maybe, none, some}
+use Rattle.buffer.specs.Buffer.{putAt}
+use Rattle.buffer.specs.Table.{Maybe, none, some}
 use Rattle.refusals.specs.declared.Refusal.{Refusal}
-use Rattle.refusals.specs.Numbers.{number}
-use Rattle.answer.specs.declared.Answer.{Answer}
+use Rattle.refusals.specs.Numbers.{number, lengthWith}
+use Rattle.packing.specs.declared.Answer.{Answer}
 use Rattle.colour.specs.declared.Settings.{Settings}
+use Rattle.settings.specs.Bits.{settingsOf}
 use Rattle.segments.specs.Segments.{LogSegments}
 use Rattle.template.specs.Template.{Template, read, refusal, readTemplate}
 use Rattle.fields.specs.Lines.{lineOf}
 use Rattle.record.specs.Layout.{Laid, rightSize, laidOut}
-use Rattle.record.specs.Checks.{recordRefusal, recordOf}
+use Rattle.checks.specs.Checks.{recordRefusal}
+use Rattle.record.specs.Contents.{recordOf}
 
 -- a line, or a refusal
 pub data Outcome : Type 0 where
@@ -25,6 +27,7 @@ pub data Outcome : Type 0 where
 unfoldable pub inRoom : ℕ → List ℕ → Outcome
 inRoom room s = elim (leb (length s) room) [ true ↦ line s | false ↦ refused (Refusal.LineTooLong (length s)) ]
 
+-- a record that passes its checks gets its line, any other its refusal
 unfoldable pub passed : Settings → List ℕ → LogSegments → Laid → ℕ → Maybe Refusal → Outcome
 passed settings t s d room none = inRoom room (lineOf settings t s (recordOf d))
 passed settings t s d room (some r) = refused r
@@ -33,6 +36,7 @@ passed settings t s d room (some r) = refused r
 unfoldable pub recordOutcome : Settings → List ℕ → LogSegments → Laid → ℕ → Outcome
 recordOutcome settings t s d room = passed settings t s d room (recordRefusal d)
 
+-- the record d by what reading the template gave
 unfoldable pub byTemplate : Settings → List ℕ → Laid → ℕ → Template → Outcome
 byTemplate settings t d room (read s) = recordOutcome settings t s d room
 byTemplate settings t d room (refusal r) = refused r
@@ -48,30 +52,9 @@ bufferAfter d (line s) = putAt d 0 s
 bufferAfter d (refused r) = d
 
 -- "Every refusal returns its number (13 also the length; no other refusal returns one)": number + 256 × length
-abbrev pub lengthWith : Refusal → ℕ
-lengthWith Refusal.TemplateTooLong = 0
-lengthWith Refusal.TemplateNotUtf8 = 0
-lengthWith Refusal.Failure = 0
-lengthWith Refusal.NoMessage = 0
-lengthWith Refusal.TooManySegments = 0
-lengthWith Refusal.TooDeep = 0
-lengthWith Refusal.TooWide = 0
-lengthWith Refusal.TooManyF = 0
-lengthWith Refusal.HalfEscape = 0
-lengthWith Refusal.NameTouchesLetter = 0
-lengthWith Refusal.FieldTooLong = 0
-lengthWith Refusal.FieldNotUtf8 = 0
-lengthWith (Refusal.LineTooLong n) = n
-lengthWith Refusal.NotARecord = 0
-lengthWith Refusal.NotASheet = 0
-
 unfoldable pub packed : Outcome → ℕ
 packed (line s) = 256 * length s
 packed (refused r) = number r + 256 * lengthWith r
-
--- "a settings byte (1 colour, 2 straight, others zero)": its known bits
-unfoldable pub settingsOf : ℕ → Settings
-settingsOf b = record { colour = eqb (b % 2) 1; straight = eqb (b / 2 % 2) 1 }
 
 -- ---- a call with the settings byte and the record's bytes
 
@@ -79,12 +62,17 @@ settingsOf b = record { colour = eqb (b % 2) 1; straight = eqb (b / 2 % 2) 1 }
 unfoldable pub isCall : ℕ → List ℕ → Bool
 isCall settings d = ltb settings 4 && rightSize d
 
+-- the outcome of a call with so much room
 unfoldable pub callOutcome : ℕ → List ℕ → List ℕ → ℕ → Outcome
 callOutcome settings t d room =
     elim (isCall settings d) [
       | true ↦ outcome (settingsOf settings) t (laidOut d) room
       | false ↦ refused Refusal.NotASheet
     ]
+
+-- the outcome of a call with a lent buffer
+abbrev pub lineEntry : List ℕ → ℕ → List ℕ → List ℕ → Outcome
+lineEntry t settings d lent = callOutcome settings t d (length lent)
 
 -- what the code's answer says of an outcome: a line by its length
 unfoldable pub answerOf : Outcome → Answer

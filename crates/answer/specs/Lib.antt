@@ -1,3 +1,3 @@
 pub mod Answers
 pub mod Rooms
-pub mod Templates
+pub mod Computing

@@ -1,69 +1,44 @@
 // What a line call answers: the line, or a refusal.
+use checks::Checked;
+use checks::check_record;
 use colour::Settings;
-use line::writing::write_line;
-use record::Checked;
+use line::write_line;
+use packing::Answer;
+use packing::answer_in;
 use record::Places;
-use record::checks::check_record;
 use record::layout::places_in;
 use record::layout::right_size;
 use refusals::Refusal;
+use settings::settings_of;
 use template::Parsed;
-use template::parse::parse;
+use template::parse;
 ghost use mathlib.Core.Path.{_≡_};
 ghost use mathlib.Core.Bool.{true};
-ghost use Prim.Native.Nat.{_≤_, _<_, _^_};
+ghost use Prim.Native.Nat.{_≤_};
 ghost use lib.ListN.{length};
-ghost use Rattle.text.specs.Bytes.{part};
+ghost use Rattle.buffer.specs.Bytes.{part};
 ghost use Rattle.segments.specs.Pool.{chainAt};
-ghost use Rattle.template.specs.Told.{ReadKeeps};
-ghost use Rattle.record.specs.Layout.{rightSize, laidOut, laidBy};
-ghost use Rattle.record.specs.Checks.{recordOf};
+ghost use Rattle.template.specs.Parsing.{ReadKeeps};
+ghost use Rattle.record.specs.Layout.{rightSize, laidOut};
+ghost use Rattle.record.specs.Placed.{laidBy};
+ghost use Rattle.record.specs.Contents.{recordOf};
 ghost use Rattle.fields.specs.Lines.{lineOf};
-ghost use Rattle.line.specs.Places.{recordBy};
-ghost use Rattle.line.specs.Rows.{written};
-ghost use Rattle.line.specs.Texts.{segmentsText};
-ghost use Rattle.answer.specs.Answers.{settingsOf, recordOutcome, outcome, callOutcome, answerOf, bufferAfter};
-ghost use Rattle.answer.specs.Rooms.{answerIn, Packable, Asked, Passed};
-
-pub mod packing;
-pub mod templates;
-
-// A line of so many bytes at the front of the lent buffer, or a refusal.
-pub enum Answer {
-    Line(usize),
-    Refused(Refusal),
-}
-
-// The settings that a byte's known bits say.
-pub fn settings_of(b: u8) -> Settings
-    ensures { λ r. ⌜ r ≡ settingsOf b ⌝ }
-{
-    Settings {
-        colour: b % 2 == 1,
-        straight: b / 2 % 2 == 1,
-    }
-}
-
-// The answer for a line of n bytes.
-pub fn answer_in(room: usize, n: usize) -> Answer
-    ensures { λ r. ⌜ r ≡ answerIn room n ⌝ }
-{
-    if n <= room {
-        return Answer::Line(n);
-    }
-    Answer::Refused(Refusal::LineTooLong(n))
-}
+ghost use Rattle.buffer.specs.Buffer.{Writes};
+ghost use Rattle.rows.specs.Texts.{segmentsText};
+ghost use Rattle.answer.specs.Answers.{outcome, answerOf, bufferAfter, lineEntry};
+ghost use Rattle.answer.specs.Rooms.{Asked, Accepted, outcomeBy};
+ghost use Rattle.packing.specs.Packing.{Packable};
 
 // Writes a part of d where there is room for it, and returns its length.
 fn put_part(d: &[u8], from: usize, to: usize, out: &mut [u8]) -> usize
     requires { ⌜ (from ≤ to) × (to ≤ length (now d)) ⌝ }
-    ensures { λ r. ⌜ (r ≡ length (part from to (now (d .entry)))) × (now (out .exit) ≡ written (now (out .entry)) (part from to (now (d .entry)))) ⌝ }
+    ensures { λ r. ⌜ Writes (now (out .entry)) (now (out .exit)) (part from to (now (d .entry))) r ⌝ }
 {
     let n = to - from;
     if out.len() < n {
         return n;
     }
-    text::buffer::put(out, 0, &d[from..to])
+    buffer::put(out, 0, &d[from..to])
 }
 
 // The same with the line of a record that has a level.
@@ -76,8 +51,8 @@ fn put_segments(
     p: Places,
     out: &mut [u8],
 ) -> usize
-    requires { ⌜ Passed (now cells) (now t) (now d) n p ⌝ }
-    ensures { λ r. ⌜ (r ≡ length (segmentsText s (now (t .entry)) (recordOf (laidBy p (now (d .entry)))) (chainAt (now (cells .entry)) n))) × (now (out .exit) ≡ written (now (out .entry)) (segmentsText s (now (t .entry)) (recordOf (laidBy p (now (d .entry)))) (chainAt (now (cells .entry)) n))) ⌝ }
+    requires { ⌜ Accepted (now cells) (now t) (now d) n p ⌝ }
+    ensures { λ r. ⌜ Writes (now (out .entry)) (now (out .exit)) (segmentsText s (now (t .entry)) (recordOf (laidBy p (now (d .entry)))) (chainAt (now (cells .entry)) n)) r ⌝ }
 {
     let numbers = [
         p.source,
@@ -106,8 +81,8 @@ fn put_line(
     p: Places,
     out: &mut [u8],
 ) -> usize
-    requires { ⌜ Passed (now cells) (now t) (now d) n p ⌝ }
-    ensures { λ r. ⌜ (r ≡ length (lineOf s (now (t .entry)) (chainAt (now (cells .entry)) n) (recordOf (laidBy p (now (d .entry)))))) × (now (out .exit) ≡ written (now (out .entry)) (lineOf s (now (t .entry)) (chainAt (now (cells .entry)) n) (recordOf (laidBy p (now (d .entry)))))) ⌝ }
+    requires { ⌜ Accepted (now cells) (now t) (now d) n p ⌝ }
+    ensures { λ r. ⌜ Writes (now (out .entry)) (now (out .exit)) (lineOf s (now (t .entry)) (chainAt (now (cells .entry)) n) (recordOf (laidBy p (now (d .entry))))) r ⌝ }
 {
     if p.level == 0 {
         return put_part(d, p.message_from, p.message_to, out);
@@ -126,8 +101,8 @@ fn answer_record(
     out: &mut [u8],
 ) -> Answer
     requires { ⌜ Asked (now cells) (now t) (now d) n ⌝ }
-    ensures answer { λ r. ⌜ r ≡ answerOf (recordOutcome s (now (t .entry)) (chainAt (now (cells .entry)) n) (laidOut (now (d .entry))) room) ⌝ }
-    ensures buffer { λ r. ⌜ now (out .exit) ≡ bufferAfter (now (out .entry)) (recordOutcome s (now (t .entry)) (chainAt (now (cells .entry)) n) (laidOut (now (d .entry))) (length (now (out .entry)))) ⌝ }
+    ensures answer { λ r. ⌜ r ≡ answerOf (outcomeBy s (now (t .entry)) (now (cells .entry)) n (now (d .entry)) room) ⌝ }
+    ensures buffer { λ r. ⌜ now (out .exit) ≡ bufferAfter (now (out .entry)) (outcomeBy s (now (t .entry)) (now (cells .entry)) n (now (d .entry)) (length (now (out .entry)))) ⌝ }
     ensures packable { λ r. ⌜ Packable r ⌝ }
 {
     let p = places_in(d);
@@ -148,8 +123,8 @@ pub fn record_line(
     out: &mut [u8],
 ) -> Answer
     requires { ⌜ (512 ≤ length (now cells)) × (ReadKeeps (now cells) n × ((length (now t) ≤ 1024) × (rightSize (now d) ≡ true))) ⌝ }
-    ensures answer { λ r. ⌜ r ≡ answerOf (recordOutcome s (now (t .entry)) (chainAt (now (cells .entry)) n) (laidOut (now (d .entry))) (length (now (out .entry)))) ⌝ }
-    ensures buffer { λ r. ⌜ now (out .exit) ≡ bufferAfter (now (out .entry)) (recordOutcome s (now (t .entry)) (chainAt (now (cells .entry)) n) (laidOut (now (d .entry))) (length (now (out .entry)))) ⌝ }
+    ensures answer { λ r. ⌜ r ≡ answerOf (outcomeBy s (now (t .entry)) (now (cells .entry)) n (now (d .entry)) (length (now (out .entry)))) ⌝ }
+    ensures buffer { λ r. ⌜ now (out .exit) ≡ bufferAfter (now (out .entry)) (outcomeBy s (now (t .entry)) (now (cells .entry)) n (now (d .entry)) (length (now (out .entry)))) ⌝ }
 {
     let room = out.len();
     answer_record(cells, n, t, s, d, room, out)
@@ -165,7 +140,7 @@ pub fn measure_record(
     room: usize,
 ) -> Answer
     requires { ⌜ (512 ≤ length (now cells)) × (ReadKeeps (now cells) n × ((length (now t) ≤ 1024) × (rightSize (now d) ≡ true))) ⌝ }
-    ensures { λ r. ⌜ r ≡ answerOf (recordOutcome s (now (t .entry)) (chainAt (now (cells .entry)) n) (laidOut (now (d .entry))) room) ⌝ }
+    ensures { λ r. ⌜ r ≡ answerOf (outcomeBy s (now (t .entry)) (now (cells .entry)) n (now (d .entry)) room) ⌝ }
 {
     let mut none: [u8; 0] = [];
     answer_record(cells, n, t, s, d, room, &mut none)
@@ -188,8 +163,8 @@ fn read_and_answer(t: &[u8], s: Settings, d: &[u8], out: &mut [u8]) -> Answer
 
 // The line of the record d by the template t, at the front of the lent buffer; or a refusal, and the buffer as it was.
 pub fn line(t: &[u8], settings: u8, d: &[u8], out: &mut [u8]) -> Answer
-    ensures answer { λ r. ⌜ r ≡ answerOf (callOutcome settings (now (t .entry)) (now (d .entry)) (length (now (out .entry)))) ⌝ }
-    ensures buffer { λ r. ⌜ now (out .exit) ≡ bufferAfter (now (out .entry)) (callOutcome settings (now (t .entry)) (now (d .entry)) (length (now (out .entry)))) ⌝ }
+    ensures answer { λ r. ⌜ r ≡ answerOf (lineEntry (now (t .entry)) settings (now (d .entry)) (now (out .entry))) ⌝ }
+    ensures buffer { λ r. ⌜ now (out .exit) ≡ bufferAfter (now (out .entry)) (lineEntry (now (t .entry)) settings (now (d .entry)) (now (out .entry))) ⌝ }
     ensures packable { λ r. ⌜ Packable r ⌝ }
 {
     if 4 <= settings {

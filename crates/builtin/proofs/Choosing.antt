@@ -4,13 +4,13 @@ use mathlib.Core.Bool.{Bool, true, false}
 use mathlib.Core.List.{List, _++_}
 use Prim.Native.Nat.{ℕ, _<_}
 use native.Mathlib.Omega.{arith}
-use Rattle.text.specs.Bytes.{bytes}
+use Rattle.buffer.specs.Bytes.{bytes}
 use Rattle.builtin.specs.Builtins.{builtin, forHost, builtinText}
-use Rattle.builtin.specs.Rows.{rowOf, rowText}
+use Rattle.builtin.specs.Rows.{templateRow, rowText}
 use Rattle.builtin.specs.declared.Style.{Style}
 use Rattle.builtin.specs.declared.Style.the-variants.{Default, OneLine}
 
-pub row-below : (style : Style) (location timestamp : Bool) → rowOf style location timestamp < 8
+pub row-below : (style : Style) (location timestamp : Bool) → templateRow style location timestamp < 8
 row-below Default false false = omega arith
 row-below Default false true = omega arith
 row-below Default true false = omega arith
@@ -20,7 +20,7 @@ row-below OneLine false true = omega arith
 row-below OneLine true false = omega arith
 row-below OneLine true true = omega arith
 
-pub row-chosen : (style : Style) (location timestamp : Bool) → rowText (rowOf style location timestamp) ≡ builtin style location timestamp
+pub row-chosen : (style : Style) (location timestamp : Bool) → rowText (templateRow style location timestamp) ≡ builtin style location timestamp
 unfolding rowText builtin
 row-chosen Default false false = refl
 row-chosen Default false true = refl
@@ -31,15 +31,15 @@ row-chosen OneLine false true = refl
 row-chosen OneLine true false = refl
 row-chosen OneLine true true = refl
 
-pub chosen : (k : ℕ) (style : Style) (location timestamp host : Bool) → k ≡ rowOf style location timestamp → host ≡ false
+pub row-plain : (k : ℕ) (style : Style) (location timestamp host : Bool) → k ≡ templateRow style location timestamp → host ≡ false
     → rowText k ≡ builtinText style location timestamp host
 unfolding forHost
-chosen k style location timestamp host e f =
+row-plain k style location timestamp host e f =
     ap rowText e ∙ row-chosen style location timestamp ∙ ap (λ (h : Bool). forHost h (builtin style location timestamp)) (sym f)
 
-pub chosen-for-host : (k : ℕ) (style : Style) (location timestamp host : Bool) → k ≡ rowOf style location timestamp → host ≡ true
+pub row-for-host : (k : ℕ) (style : Style) (location timestamp host : Bool) → k ≡ templateRow style location timestamp → host ≡ true
     → rowText k ++ bytes " (HOST)" ≡ builtinText style location timestamp host
 unfolding forHost
-chosen-for-host k style location timestamp host e f =
+row-for-host k style location timestamp host e f =
     ap (λ (x : List ℕ). x ++ bytes " (HOST)") (ap rowText e ∙ row-chosen style location timestamp)
     ∙ ap (λ (h : Bool). forHost h (builtin style location timestamp)) (sym f)

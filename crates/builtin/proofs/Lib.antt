@@ -1,3 +1,4 @@
+pub mod Choices
 pub mod Choosing
 pub mod Fitting
 pub mod Rule

@@ -8,8 +8,8 @@ use native.Mathlib.Omega.{arith}
 use lib.Dec.{eqb, leb}
 use lib.ListN.{length, getD}
 use borrow.Author.Tests.{leb-true, eqb-true, eqb-false}
-use Rattle.text.specs.Bytes.{bytes, part, same}
-use Rattle.text.proofs.Sameness.{same→≡}
+use Rattle.buffer.specs.Bytes.{bytes, part, same}
+use Rattle.buffer.proofs.Sameness.{same→≡}
 use Rattle.builtin.specs.Builtins.{builtin}
 use Rattle.builtin.specs.Rows.{rowText}
 

@@ -2,7 +2,7 @@
 use Prim.Native.Nat.{ℕ}
 use mathlib.Core.Bool.{Bool, true, false}
 use mathlib.Core.List.{List, [], _∷_, _++_}
-use Rattle.text.specs.Bytes.{bytes}
+use Rattle.buffer.specs.Bytes.{bytes}
 use Rattle.builtin.specs.declared.Style.{Style}
 use Rattle.builtin.specs.declared.Style.the-variants.{Default, OneLine}
 

@@ -1,3 +1,4 @@
 pub mod Builtins
+pub mod Choices
 pub mod Rows
-pub mod Written
+pub mod Computing

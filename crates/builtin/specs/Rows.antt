@@ -1,4 +1,4 @@
--- The table of templates: which row has which. Assumes nothing.
+-- Scaffolding, for proofs alone: the table of templates: which row has which. Assumes nothing.
 use Prim.Native.Nat.{ℕ, _+_}
 use mathlib.Core.Bool.{Bool, true, false}
 use mathlib.Core.List.{List, [], _∷_}
@@ -14,9 +14,9 @@ fromTwo false true = 1
 fromTwo true false = 2
 fromTwo true true = 3
 
-abbrev pub rowOf : Style → Bool → Bool → ℕ
-rowOf Default location timestamp = fromTwo location timestamp
-rowOf OneLine location timestamp = 4 + fromTwo location timestamp
+abbrev pub templateRow : Style → Bool → Bool → ℕ
+templateRow Default location timestamp = fromTwo location timestamp
+templateRow OneLine location timestamp = 4 + fromTwo location timestamp
 
 -- the template of a row
 unfoldable pub rowText : ℕ → List ℕ

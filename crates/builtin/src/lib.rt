@@ -3,10 +3,11 @@ ghost use mathlib.Core.Path.{_≡_};
 ghost use mathlib.Core.List.{_++_};
 ghost use Prim.Native.Nat.{_+_, _<_, _≤_};
 ghost use lib.ListN.{length};
-ghost use Rattle.text.specs.Bytes.{bytes};
+ghost use Rattle.buffer.specs.Bytes.{bytes};
 ghost use Rattle.builtin.specs.Builtins.{builtinText};
-ghost use Rattle.builtin.specs.Rows.{fromTwo, rowOf, rowText};
-ghost use Rattle.builtin.specs.Written.{written};
+ghost use Rattle.builtin.specs.Choices.{styleOf, isYes, chosen};
+ghost use Rattle.builtin.specs.Rows.{fromTwo, templateRow, rowText};
+ghost use Rattle.buffer.specs.Buffer.{Writes};
 
 // The two sets of them.
 pub enum Style {
@@ -49,7 +50,7 @@ fn from_two(first: usize, location: bool, timestamp: bool) -> usize
 
 // The row of a template in the table.
 fn row_of(style: Style, location: bool, timestamp: bool) -> usize
-    ensures { λ r. ⌜ r ≡ rowOf style location timestamp ⌝ }
+    ensures { λ r. ⌜ r ≡ templateRow style location timestamp ⌝ }
 {
     match style {
         Style::Default => from_two(0, location, timestamp),
@@ -68,7 +69,7 @@ fn length_of(k: usize) -> usize
 // Writes the template of the row k where it fits, and returns its length.
 fn put_row(k: usize, out: &mut [u8]) -> usize
     requires { ⌜ k < 8 ⌝ }
-    ensures { λ r. ⌜ (r ≡ length (rowText k)) × (now (out .exit) ≡ written (now (out .entry)) (rowText k)) ⌝ }
+    ensures { λ r. ⌜ Writes (now (out .entry)) (now (out .exit)) (rowText k) r ⌝ }
 {
     let n = length_of(k);
     if out.len() < n {
@@ -77,20 +78,20 @@ fn put_row(k: usize, out: &mut [u8]) -> usize
     let text = TEXT;
     let from = STARTS[k];
     let to = from + n;
-    text::buffer::put(out, 0, &text[from..to])
+    buffer::put(out, 0, &text[from..to])
 }
 
 // The same for a host formatter.
 fn put_row_for_host(k: usize, out: &mut [u8]) -> usize
     requires { ⌜ k < 8 ⌝ }
-    ensures { λ r. ⌜ (r ≡ length (rowText k ++ bytes " (HOST)")) × (now (out .exit) ≡ written (now (out .entry)) (rowText k ++ bytes " (HOST)")) ⌝ }
+    ensures { λ r. ⌜ Writes (now (out .entry)) (now (out .exit)) (rowText k ++ bytes " (HOST)") r ⌝ }
 {
     let n = length_of(k) + 7;
     if out.len() < n {
         return n;
     }
     let at = put_row(k, out);
-    text::buffer::put(out, at, b" (HOST)")
+    buffer::put(out, at, b" (HOST)")
 }
 
 // Writes a built-in template to the front of the buffer where it fits, and returns its length.
@@ -101,11 +102,41 @@ pub fn put_builtin(
     host: bool,
     out: &mut [u8],
 ) -> usize
-    ensures { λ r. ⌜ (r ≡ length (builtinText style location timestamp host)) × (now (out .exit) ≡ written (now (out .entry)) (builtinText style location timestamp host)) ⌝ }
+    ensures { λ r. ⌜ Writes (now (out .entry)) (now (out .exit)) (builtinText style location timestamp host) r ⌝ }
 {
     let k = row_of(style, location, timestamp);
     if host {
         return put_row_for_host(k, out);
     }
     put_row(k, out)
+}
+
+// Which set a caller's number means.
+fn style_of(n: u8) -> Style
+    ensures { λ r. ⌜ r ≡ styleOf n ⌝ }
+{
+    if n == 0 {
+        return Style::Default;
+    }
+    Style::OneLine
+}
+
+// What a caller's number answers.
+fn is_yes(n: u8) -> bool
+    ensures { λ r. ⌜ r ≡ isYes n ⌝ }
+{
+    n != 0
+}
+
+// Writes the one that a caller's numbers choose. Every number chooses one, so that nothing is asked of the caller.
+pub fn put_chosen(style: u8, location: u8, timestamp: u8, host: u8, out: &mut [u8]) -> usize
+    ensures { λ r. ⌜ Writes (now (out .entry)) (now (out .exit)) (chosen style location timestamp host) r ⌝ }
+{
+    put_builtin(
+        style_of(style),
+        is_yes(location),
+        is_yes(timestamp),
+        is_yes(host),
+        out,
+    )
 }

@@ -6,9 +6,9 @@ use Prim.Native.Nat.{ℕ, _≤_}
 use native.Mathlib.Omega.{arith}
 use lib.Dec.{eqb}
 use borrow.Author.Tests.{ne-eqb}
-use Rattle.text.specs.Utf8.{within}
-use Rattle.text.proofs.Ranges.{within-above}
-use Rattle.words.specs.Runs.{digit}
+use Rattle.utf8.specs.Utf8.{within}
+use Rattle.utf8.proofs.Ranges.{within-above}
+use Rattle.runs.specs.Runs.{digit}
 use Rattle.colour.specs.declared.State.{State}
 use Rattle.colour.specs.declared.State.the-variants.{Outside, Escape, Bracket, LoneZero, Digits}
 use Rattle.colour.specs.declared.Act.the-variants.{Text, Esc, More}

@@ -5,15 +5,15 @@ use Prim.Native.Nat.{ℕ, _+_}
 use native.Mathlib.Omega.{arith}
 use native.Mathlib.Decide.{decLt}
 use lib.ListN.{length, length-append}
-use Rattle.text.specs.Characters.{begins, chars}
-use Rattle.text.proofs.Counting.{begins-below, chars-append}
+use Rattle.characters.specs.Characters.{begins, chars}
+use Rattle.characters.proofs.Counting.{begins-below, chars-append}
 use Rattle.colour.specs.declared.State.{State}
 use Rattle.colour.specs.declared.State.the-variants.{Outside, Escape}
 use Rattle.colour.specs.declared.Act.{Act}
 use Rattle.colour.specs.declared.Act.the-variants.{Text, Esc, More, Done, Reset}
 use Rattle.colour.specs.declared.Scan.{Scan}
 use Rattle.colour.specs.Sequences.{visible}
-use Rattle.colour.specs.Machine.{actOf, moved, scan, start, kept, strip}
+use Rattle.colour.specs.Machine.{actOf, moved, scan, start, leftBy, strip}
 use Rattle.colour.proofs.Acts.{act-high}
 use Rattle.colour.proofs.Visible.{visible-strip}
 
@@ -27,7 +27,7 @@ Whole-from s h t = t .held ≡ length h → chars h ≡ length h → chars (stri
 
 whole-at : (s h : List ℕ) (b : ℕ) (t : Scan) → ((h : List ℕ) (t : Scan) → Whole-from s h t) → t .held ≡ length h → chars h ≡ length h
     → (x : Act) → ((x ≡ Text → ⊥) → begins b ≡ 1)
-    → chars (kept x h b (λ q h′. strip q h′ s)) + scan (moved x t) s .sequences ≡ chars h + (begins b + chars s) + t .sequences
+    → chars (leftBy x h b (λ q h′. strip q h′ s)) + scan (moved x t) s .sequences ≡ chars h + (begins b + chars s) + t .sequences
 whole-at s h b t rest k a Text o = omega (arith, chars-append h (b ∷ strip Outside [] s), rest [] (moved Text t) refl refl)
 whole-at s h b t rest k a Esc o =
     let e : begins b ≡ 1 = o (λ z. let y : _≡_ {A = ℕ} 0 1 = cc in omega arith) in

@@ -4,8 +4,8 @@ use mathlib.Core.List.{List, _++_}
 use Prim.Native.Nat.{ℕ, _+_, _-_, _<_}
 use native.Mathlib.Omega.{arith}
 use lib.ListN.{replicate}
-use Rattle.text.specs.Characters.{chars}
-use Rattle.text.proofs.Counting.{chars-append, chars-replicate}
+use Rattle.characters.specs.Characters.{chars}
+use Rattle.characters.proofs.Counting.{chars-append, chars-replicate}
 use Rattle.words.specs.declared.Padding.{Padding}
 use Rattle.words.specs.declared.Padding.the-variants.{Space, Zero}
 use Rattle.colour.specs.declared.Settings.{Settings}

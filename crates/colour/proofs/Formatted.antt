@@ -10,7 +10,7 @@ use Rattle.words.specs.declared.Alignment.the-variants.{Left, Center, Right}
 use Rattle.colour.specs.declared.Settings.{Settings}
 use Rattle.colour.specs.declared.Format.{Format}
 use Rattle.colour.specs.Sequences.{reset, visible, reinserted}
-use Rattle.colour.specs.Formatting.{count, due, prefixIn, inserted, counted, padded, before, padByte, ending, laid, formatted}
+use Rattle.colour.specs.Formatting.{count, due, prefixIn, inserted, counted, padded, before, padByte, ending, framed, formatted}
 use Rattle.colour.specs.Texts.{Free}
 use Rattle.colour.proofs.Strip.{Trails, trails-ending, trails-pad}
 use Rattle.colour.proofs.Shows.{Shows, shows-append, shows-free, free-pad, free-append, shows-ending, visible-reinserted-append, shows-reinserted, reinserted-nil, visible-trails}
@@ -24,8 +24,8 @@ withPadding f n v =
 
 -- ---- what is visible
 
-pub visible-laid : (p : List ℕ) → Shows p [] → (f : Format) (n : ℕ) (t : List ℕ) → visible (laid p f n t) ≡ withPadding f n (visible t)
-unfolding laid
+pub visible-laid : (p : List ℕ) → Shows p [] → (f : Format) (n : ℕ) (t : List ℕ) → visible (framed p f n t) ≡ withPadding f n (visible t)
+unfolding framed
 visible-laid p g f n t =
     let z = f .padding in
     let l = replicate (before (f .alignment) n) (padByte z) in
@@ -42,8 +42,8 @@ unfolding formatted
 visible-formatted s f t = visible-laid (prefixIn (s .colour) (f .look)) (shows-prefixIn (s .colour) (f .look)) f (padded s f t) t
 
 -- where no sequence is open after the text, none is open after the formatted text
-pub shows-laid : (p : List ℕ) → Shows p [] → (f : Format) (n : ℕ) (t v : List ℕ) → Shows t v → Shows (laid p f n t) (withPadding f n v)
-unfolding laid
+pub shows-laid : (p : List ℕ) → Shows p [] → (f : Format) (n : ℕ) (t v : List ℕ) → Shows t v → Shows (framed p f n t) (withPadding f n v)
+unfolding framed
 shows-laid p g f n t v h =
     let z = f .padding in
     let a = before (f .alignment) n in
@@ -60,8 +60,8 @@ unfolding formatted
 shows-formatted s f t v h = shows-laid (prefixIn (s .colour) (f .look)) (shows-prefixIn (s .colour) (f .look)) f (padded s f t) t v h
 
 -- without a prefix the padding is all that is added
-pub laid-plain : (f : Format) (n : ℕ) (t : List ℕ) → laid [] f n t ≡ withPadding f n t
-unfolding laid ending
+pub laid-plain : (f : Format) (n : ℕ) (t : List ℕ) → framed [] f n t ≡ withPadding f n t
+unfolding framed ending
 laid-plain f n t =
     let l = replicate (before (f .alignment) n) (padByte (f .padding)) in
     let r = replicate (n - before (f .alignment) n) (padByte (f .padding)) in
@@ -70,7 +70,7 @@ laid-plain f n t =
 -- with colour off it is all
 pub formatted-plain : (s : Settings) (f : Format) (t : List ℕ) → s .colour ≡ false → formatted s f t ≡ withPadding f (padded s f t) t
 unfolding formatted prefixIn
-formatted-plain s f t e = ap (λ (x : Bool). laid (prefixIn x (f .look)) f (padded s f t) t) e ∙ laid-plain f (padded s f t) t
+formatted-plain s f t e = ap (λ (x : Bool). framed (prefixIn x (f .look)) f (padded s f t) t) e ∙ laid-plain f (padded s f t) t
 
 -- where there is a prefix the text ends with the reset
 pub ending-reset : (p : List ℕ) → (p ≡ [] → ⊥) → ending p ≡ reset

@@ -16,7 +16,7 @@ use Rattle.colour.specs.declared.Settings.{Settings}
 use Rattle.colour.specs.declared.Format.{Format}
 use Rattle.colour.specs.Sequences.{reset, reinserted}
 use Rattle.colour.specs.Looks.{prefix}
-use Rattle.colour.specs.Formatting.{prefixIn, before, padByte, ending, laid, padded, formatted}
+use Rattle.colour.specs.Formatting.{prefixIn, before, padByte, ending, framed, padded, formatted}
 use Rattle.colour.specs.Machine.{actOf, moved, scan, start, ins}
 use Rattle.colour.specs.Texts.{Free}
 use Rattle.colour.proofs.Acts.{act-outside}
@@ -88,7 +88,7 @@ resets-ending (b ∷ p) = (1, omega arith, resets-reset)
 
 -- a formatted text holds at most one reset more than the text
 pub resets-formatted : (s : Settings) (f : Format) (t : List ℕ) (n : ℕ) → Resets t n → (m : ℕ) × (m ≤ n + 1) × Resets (formatted s f t) m
-unfolding formatted laid
+unfolding formatted framed
 resets-formatted s f t n h =
     let p = prefixIn (s .colour) (f .look) in
     let g = harmless p (whole-or-none-prefixIn (s .colour) (f .look)) in

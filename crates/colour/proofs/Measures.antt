@@ -4,9 +4,9 @@ use mathlib.Core.List.{List, [], _∷_, _++_, append-assoc}
 use Prim.Native.Nat.{ℕ, zero, suc, _+_, _*_, _-_}
 use native.Mathlib.Omega.{arith}
 use lib.ListN.{length, replicate, length-append, length-replicate}
-use Rattle.text.specs.Utf8.{within}
-use Rattle.text.specs.Characters.{begins, chars}
-use Rattle.text.proofs.Counting.{chars-append}
+use Rattle.utf8.specs.Utf8.{within}
+use Rattle.characters.specs.Characters.{begins, chars}
+use Rattle.characters.proofs.Counting.{chars-append}
 use Rattle.words.specs.declared.Padding.{Padding}
 use Rattle.colour.specs.declared.State.{State}
 use Rattle.colour.specs.declared.State.the-variants.{Outside}
@@ -16,7 +16,7 @@ use Rattle.colour.specs.declared.Scan.{Scan}
 use Rattle.colour.specs.declared.Settings.{Settings}
 use Rattle.colour.specs.declared.Format.{Format}
 use Rattle.colour.specs.Sequences.{reset, visible, reinserted}
-use Rattle.colour.specs.Formatting.{count, inserted, before, padByte, ending, laid}
+use Rattle.colour.specs.Formatting.{count, inserted, before, padByte, ending, framed}
 use Rattle.colour.specs.Machine.{actOf, after, moved, scan, resting, start, behind, ins}
 use Rattle.colour.proofs.Strip.{Stays, stays-pad}
 use Rattle.colour.proofs.Scanning.{scan-append, scan-free}
@@ -122,9 +122,9 @@ scan-resting s n r = ap (λ (u : Scan). scan u s) (resting-eq n (0 + n) r (0 + r
 
 -- a text with a prefix, on top of anything: only the measure of the text by itself is needed
 pub scan-laid : (p : List ℕ) → Whole p → ending p ≡ reset → (f : Format) (n : ℕ) (s : List ℕ) (t : Scan)
-    → scan t (laid p f n s)
+    → scan t (framed p f n s)
     ≡ resting (t .sequences + (length p + (scan start s .sequences + (scan start s .resets * length p + 4)))) (t .resets + (scan start s .resets + 1))
-unfolding laid
+unfolding framed
 scan-laid p w e f n s t =
     let z = f .padding in
     let a = before (f .alignment) n in
@@ -154,8 +154,8 @@ scan-laid p w e f n s t =
 
 -- its bytes
 pub length-laid : (p : List ℕ) (f : Format) (n : ℕ) (s : List ℕ)
-    → length (laid p f n s) ≡ length p + (length s + (scan start s .resets * length p + (n + length (ending p))))
-unfolding laid
+    → length (framed p f n s) ≡ length p + (length s + (scan start s .resets * length p + (n + length (ending p))))
+unfolding framed
 length-laid p f n s =
     let a = before (f .alignment) n in
     let z = padByte (f .padding) in
@@ -181,8 +181,8 @@ chars-ending (b ∷ p) = refl
 
 -- its characters
 pub chars-laid : (p : List ℕ) → chars p ≡ length p → (f : Format) (n : ℕ) (s : List ℕ)
-    → chars (laid p f n s) ≡ length p + (chars s + (scan start s .resets * length p + (n + length (ending p))))
-unfolding laid
+    → chars (framed p f n s) ≡ length p + (chars s + (scan start s .resets * length p + (n + length (ending p))))
+unfolding framed
 chars-laid p e f n s =
     let a = before (f .alignment) n in
     let z = f .padding in
@@ -228,8 +228,8 @@ scan-inserted p (one w) z n s t =
 pub scan-in-one-pass : (p : List ℕ) → WholeOrNone p → (f : Format) (n : ℕ) (s : List ℕ) (t : Scan)
     → scan (bump (scan (scan t (p ++ replicate (before (f .alignment) n) (padByte (f .padding)))) s) (inserted p s))
     (replicate (n - before (f .alignment) n) (padByte (f .padding)) ++ ending p)
-    ≡ scan t (laid p f n s)
-unfolding laid
+    ≡ scan t (framed p f n s)
+unfolding framed
 scan-in-one-pass p w f n s t =
     let z = f .padding in
     let a = before (f .alignment) n in

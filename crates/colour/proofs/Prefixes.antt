@@ -6,12 +6,12 @@ use Prim.Native.Nat.{ℕ, _+_, _≤_}
 use native.Mathlib.Omega.{arith}
 use lib.ListN.{length, length-append}
 use borrow.Author.Tests.{ne-eqb}
-use Rattle.text.specs.Bytes.{bytes}
-use Rattle.text.specs.Utf8.{within}
-use Rattle.text.specs.Characters.{chars}
+use Rattle.buffer.specs.Bytes.{bytes}
+use Rattle.utf8.specs.Utf8.{within}
+use Rattle.characters.specs.Characters.{chars}
 use Rattle.words.specs.declared.Color.{Color}
 use Rattle.words.specs.declared.Color.the-variants.{Black, Red, Green, Yellow, Blue, Magenta, Cyan, White, BrightBlack, BrightWhite}
-use Rattle.words.specs.Runs.{digit}
+use Rattle.runs.specs.Runs.{digit}
 use Rattle.colour.specs.declared.Ink.{Ink}
 use Rattle.colour.specs.declared.Ink.the-variants.{Bare, Inked}
 use Rattle.colour.specs.declared.Look.{Look}
@@ -22,7 +22,7 @@ use Rattle.colour.specs.declared.Scan.{Scan}
 use Rattle.colour.specs.Sequences.{esc, inSequence}
 use Rattle.colour.specs.Looks.{foreground, inkCodes, where-it-applies, codes, following, sequence, prefix}
 use Rattle.colour.specs.Formatting.{prefixIn}
-use Rattle.colour.specs.Machine.{actIn, actOf, moved, scan, resting, start, kept, strip}
+use Rattle.colour.specs.Machine.{actIn, actOf, moved, scan, resting, start, leftBy, strip}
 use Rattle.colour.proofs.Acts.{Parameters, parameters-append, act-onward}
 use Rattle.colour.proofs.Wholes.{Whole, WholeOrNone, none, one}
 use Rattle.colour.proofs.Shows.{Shows, shows-by-strip, shows-visible, shows-nil}
@@ -98,12 +98,12 @@ parameters-strip : (s r h : List ℕ) → Parameters s → strip Digits h ((s ++
 unfolding actOf actIn
 parameters-strip [] r h g = refl
 parameters-strip (b ∷ s) r h g =
-    ap (λ (a : Act). kept a h b (λ q h′. strip q h′ ((s ++ 0x6D ∷ []) ++ r))) (act-onward Digits b tt (g .0)) ∙ parameters-strip s r (h ++ b ∷ []) (g .1)
+    ap (λ (a : Act). leftBy a h b (λ q h′. strip q h′ ((s ++ 0x6D ∷ []) ++ r))) (act-onward Digits b tt (g .0)) ∙ parameters-strip s r (h ++ b ∷ []) (g .1)
 
 code-strip : (b : ℕ) (s r : List ℕ) → Code (b ∷ s) → strip Outside [] ((esc ∷ 0x5B ∷ b ∷ (s ++ 0x6D ∷ [])) ++ r) ≡ strip Outside [] r
 unfolding actOf actIn
 code-strip b s r g =
-    ap (λ (a : Act). kept a (esc ∷ 0x5B ∷ []) b (λ q h′. strip q h′ ((s ++ 0x6D ∷ []) ++ r))) (act-first b (g .0 .0) (g .0 .1))
+    ap (λ (a : Act). leftBy a (esc ∷ 0x5B ∷ []) b (λ q h′. strip q h′ ((s ++ 0x6D ∷ []) ++ r))) (act-first b (g .0 .0) (g .0 .1))
     ∙ parameters-strip s r (esc ∷ 0x5B ∷ b ∷ []) (g .1)
 
 sequence-strip : (cs : List (List ℕ)) → Codes cs → (r : List ℕ) → strip Outside [] (sequence cs ++ r) ≡ strip Outside [] r

@@ -6,8 +6,8 @@ use Prim.Native.Nat.{ℕ}
 use native.Mathlib.Omega.{arith}
 use lib.Dec.{eqb}
 use borrow.Author.Tests.{eqb-true}
-use Rattle.text.specs.Utf8.{within}
-use Rattle.words.specs.Runs.{digit}
+use Rattle.utf8.specs.Utf8.{within}
+use Rattle.runs.specs.Runs.{digit}
 use Rattle.colour.specs.declared.State.{State}
 use Rattle.colour.specs.declared.State.the-variants.{Outside, Escape, Bracket, LoneZero, Digits}
 use Rattle.colour.specs.declared.Act.{Act}

@@ -5,8 +5,8 @@ use Prim.Native.Nat.{ℕ, _+_, _-_, _<_, _≤_}
 use native.Mathlib.Omega.{arith}
 use lib.ListN.{length, drop, getD, drop-of-length-le, take-append-drop}
 use lib.Seq.{drop-drop}
-use Rattle.text.specs.Bytes.{part}
-use Rattle.text.proofs.Parts.{drop-step}
+use Rattle.buffer.specs.Bytes.{part}
+use Rattle.buffer.proofs.Parts.{drop-step}
 use Rattle.colour.specs.declared.State.{State}
 use Rattle.colour.specs.declared.State.the-variants.{Outside}
 use Rattle.colour.specs.declared.Act.{Act}

@@ -7,14 +7,14 @@ use native.Mathlib.Omega.{arith}
 use lib.Dec.{eqb}
 use lib.ListN.{replicate}
 use borrow.Author.Tests.{eqb-false}
-use Rattle.text.specs.Utf8.{within}
+use Rattle.utf8.specs.Utf8.{within}
 use Rattle.words.specs.declared.Padding.{Padding}
 use Rattle.words.specs.declared.Padding.the-variants.{Space, Zero}
-use Rattle.words.specs.Runs.{digit}
+use Rattle.runs.specs.Runs.{digit}
 use Rattle.colour.specs.declared.State.the-variants.{Outside}
 use Rattle.colour.specs.declared.Act.{Act}
 use Rattle.colour.specs.Sequences.{esc, reset, inSequence, passing, visible, reinserted}
-use Rattle.colour.specs.Machine.{actIn, actOf, stateAfter, kept, strip, ins}
+use Rattle.colour.specs.Machine.{actIn, actOf, stateAfter, leftBy, strip, ins}
 use Rattle.colour.specs.Formatting.{padByte, ending}
 use Rattle.colour.specs.Texts.{Free}
 use Rattle.colour.proofs.Acts.{act-outside}
@@ -61,7 +61,7 @@ shows-free s f = shows-by-strip s s (free s f)
     free : (s : List ℕ) → Free s → (r : List ℕ) → strip Outside [] (s ++ r) ≡ s ++ strip Outside [] r
     free [] f r = refl
     free (b ∷ s) f r =
-        ap (λ (a : Act). kept a [] b (λ q h. strip q h (s ++ r))) (act-outside b (f .0)) ∙ ap (λ (l : List ℕ). b ∷ l) (free s (f .1) r)
+        ap (λ (a : Act). leftBy a [] b (λ q h. strip q h (s ++ r))) (act-outside b (f .0)) ∙ ap (λ (l : List ℕ). b ∷ l) (free s (f .1) r)
 
 pub visible-free : (s : List ℕ) → Free s → visible s ≡ s
 visible-free s f = shows-visible s s (shows-free s f)

@@ -5,16 +5,16 @@ use mathlib.Core.List.{List, [], _∷_, _++_, append-assoc, append-nil}
 use Prim.Native.Nat.{ℕ, zero, suc}
 use lib.Dec.{eqb}
 use lib.ListN.{replicate}
-use Rattle.text.specs.Utf8.{within}
+use Rattle.utf8.specs.Utf8.{within}
 use Rattle.words.specs.declared.Padding.{Padding}
 use Rattle.words.specs.declared.Padding.the-variants.{Space, Zero}
-use Rattle.words.specs.Runs.{digit}
+use Rattle.runs.specs.Runs.{digit}
 use Rattle.colour.specs.declared.State.{State}
 use Rattle.colour.specs.declared.State.the-variants.{Outside, Escape, Bracket, LoneZero, Digits}
 use Rattle.colour.specs.declared.Act.{Act}
 use Rattle.colour.specs.declared.Act.the-variants.{Text, Esc, More, Done, Reset}
 use Rattle.colour.specs.Sequences.{esc, reset, inSequence}
-use Rattle.colour.specs.Machine.{actIn, actOf, after, stateAfter, kept, strip, behind, ins}
+use Rattle.colour.specs.Machine.{actIn, actOf, after, stateAfter, leftBy, strip, behind, ins}
 use Rattle.colour.specs.Formatting.{padByte, ending}
 
 -- ---- texts joined
@@ -25,12 +25,12 @@ unfolding actOf actIn
 strip-held h [] = sym (append-nil h)
 strip-held h (b ∷ s) = by (eqb b esc)
   where
-    by : (x : Bool) → kept (cond x Esc Text) h b (λ q h′. strip q h′ s) ≡ h ++ kept (cond x Esc Text) [] b (λ q h′. strip q h′ s)
+    by : (x : Bool) → leftBy (cond x Esc Text) h b (λ q h′. strip q h′ s) ≡ h ++ leftBy (cond x Esc Text) [] b (λ q h′. strip q h′ s)
     by true = refl
     by false = refl
 
 append-at : (s r : List ℕ) (a : Act) → ((h : List ℕ) → strip (after a) h (s ++ r) ≡ strip (after a) h s ++ strip Outside [] r) → (h : List ℕ) (b : ℕ)
-    → kept a h b (λ q h′. strip q h′ (s ++ r)) ≡ kept a h b (λ q h′. strip q h′ s) ++ strip Outside [] r
+    → leftBy a h b (λ q h′. strip q h′ (s ++ r)) ≡ leftBy a h b (λ q h′. strip q h′ s) ++ strip Outside [] r
 append-at s r Text rest h b = ap (λ (l : List ℕ). h ++ b ∷ l) (rest []) ∙ sym (append-assoc h (b ∷ strip Outside [] s) (strip Outside [] r))
 append-at s r Esc rest h b = ap (λ (l : List ℕ). h ++ l) (rest (b ∷ [])) ∙ sym (append-assoc h (strip Escape (b ∷ []) s) (strip Outside [] r))
 append-at s r (More q) rest h b = rest (h ++ b ∷ [])
@@ -49,7 +49,7 @@ abbrev pub Unseen : List ℕ → Type 0
 Unseen p = (r : List ℕ) → strip Outside [] (p ++ r) ≡ strip Outside [] r
 
 ins-at : (p : List ℕ) → Unseen p → (s r : List ℕ) → ((q : State) (h : List ℕ) → strip q h (ins p q s ++ r) ≡ strip q h (s ++ r)) → (h : List ℕ) (b : ℕ) (a : Act)
-    → kept a h b (λ q′ h′. strip q′ h′ ((behind a p ++ ins p (after a) s) ++ r)) ≡ kept a h b (λ q′ h′. strip q′ h′ (s ++ r))
+    → leftBy a h b (λ q′ h′. strip q′ h′ ((behind a p ++ ins p (after a) s) ++ r)) ≡ leftBy a h b (λ q′ h′. strip q′ h′ (s ++ r))
 ins-at p g s r rest h b Text = ap (λ (l : List ℕ). h ++ b ∷ l) (rest Outside [])
 ins-at p g s r rest h b Esc = ap (λ (l : List ℕ). h ++ l) (rest Escape (b ∷ []))
 ins-at p g s r rest h b (More q) = rest q (h ++ b ∷ [])
@@ -80,7 +80,7 @@ abbrev pub Trails : List ℕ → List ℕ → Type 0
 Trails x w = (q : State) (h : List ℕ) → strip q h x ≡ h ++ w
 
 after-at : (s x w : List ℕ) → ((q : State) (h : List ℕ) → strip q h (s ++ x) ≡ strip q h s ++ w) → (h : List ℕ) (b : ℕ) (a : Act)
-    → kept a h b (λ q′ h′. strip q′ h′ (s ++ x)) ≡ kept a h b (λ q′ h′. strip q′ h′ s) ++ w
+    → leftBy a h b (λ q′ h′. strip q′ h′ (s ++ x)) ≡ leftBy a h b (λ q′ h′. strip q′ h′ s) ++ w
 after-at s x w rest h b Text = ap (λ (l : List ℕ). h ++ b ∷ l) (rest Outside []) ∙ sym (append-assoc h (b ∷ strip Outside [] s) w)
 after-at s x w rest h b Esc = ap (λ (l : List ℕ). h ++ l) (rest Escape (b ∷ [])) ∙ sym (append-assoc h (strip Escape (b ∷ []) s) w)
 after-at s x w rest h b (More q) = rest q (h ++ b ∷ [])
@@ -125,7 +125,7 @@ stays-pad Zero Bracket = tt
 stays-pad Zero LoneZero = tt
 stays-pad Zero Digits = tt
 
-pad-at : (x w : List ℕ) (z : ℕ) → Trails x w → (h : List ℕ) (a : Act) → Stays a → kept a h z (λ q′ h′. strip q′ h′ x) ≡ h ++ z ∷ w
+pad-at : (x w : List ℕ) (z : ℕ) → Trails x w → (h : List ℕ) (a : Act) → Stays a → leftBy a h z (λ q′ h′. strip q′ h′ x) ≡ h ++ z ∷ w
 pad-at x w z t h Text s = ap (λ (l : List ℕ). h ++ z ∷ l) (t Outside [])
 pad-at x w z t h Esc s = absurd s
 pad-at x w z t h (More q) s = t q (h ++ z ∷ []) ∙ append-assoc h (z ∷ []) w

@@ -7,14 +7,14 @@ use native.Mathlib.Omega.{arith}
 use lib.ListN.{length, length-append}
 use lib.Dec.{eqb}
 use borrow.Author.Tests.{ne-eqb, eqb-true, eqb-false}
-use Rattle.text.specs.Utf8.{within}
-use Rattle.words.specs.Runs.{digit}
+use Rattle.utf8.specs.Utf8.{within}
+use Rattle.runs.specs.Runs.{digit}
 use Rattle.colour.specs.declared.State.{State}
 use Rattle.colour.specs.declared.State.the-variants.{Outside, Escape, Bracket, LoneZero, Digits}
 use Rattle.colour.specs.declared.Act.{Act}
 use Rattle.colour.specs.declared.Act.the-variants.{Text}
 use Rattle.colour.specs.Sequences.{esc, inSequence, longer, tailLength, bracketLength, sequenceLength, unlessSequence, passing, visible}
-use Rattle.colour.specs.Machine.{actIn, actOf, kept, strip}
+use Rattle.colour.specs.Machine.{actIn, actOf, leftBy, strip}
 use Rattle.colour.specs.Texts.{Free}
 use Rattle.colour.proofs.Acts.{in-sequence-not-esc, in-sequence-not-m, Parameters, parameters-append, act-outside, Begun, onward, begun-onward, act-onward, act-breaks}
 
@@ -98,7 +98,7 @@ at-rest : (b : ℕ) (s : List ℕ) → Ahead s → (x : Bool) → eqb b esc ≡ 
 unfolding actOf
 at-rest b s rest true e = subst (λ (b : ℕ). strip Outside [] (b ∷ s) ≡ passing 0 (b ∷ s)) (sym (eqb-true b esc e)) (rest Escape (esc ∷ []) escaped)
 at-rest b s rest false e =
-    ap (λ (a : Act). kept a [] b (λ q h. strip q h s)) (act-outside b (eqb-false b esc e))
+    ap (λ (a : Act). leftBy a [] b (λ q h. strip q h s)) (act-outside b (eqb-false b esc e))
     ∙ ap (λ (l : List ℕ). b ∷ l) (rest Outside [] nothing) ∙ sym (passing-other b s (eqb-false b esc e))
 
 -- after byte 27
@@ -114,13 +114,13 @@ at-escape b s rest true y e g =
 at-escape b s rest false true e g =
     subst (λ (b : ℕ). strip Escape (esc ∷ []) (b ∷ s) ≡ passing 0 (esc ∷ b ∷ s)) (sym (eqb-true b 0x5B g)) (rest Bracket (esc ∷ 0x5B ∷ []) (begun Bracket tt [] tt))
 at-escape b s rest false false e g =
-    ap (λ (a : Act). kept a (esc ∷ []) b (λ q h. strip q h s)) (let z : actOf Escape b ≡ Text = rw (e, g) in z)
+    ap (λ (a : Act). leftBy a (esc ∷ []) b (λ q h. strip q h s)) (let z : actOf Escape b ≡ Text = rw (e, g) in z)
     ∙ ap (λ (l : List ℕ). esc ∷ b ∷ l) (rest Outside [] nothing)
     ∙ ap (λ (l : List ℕ). esc ∷ l) (sym (passing-other b s (eqb-false b esc e)))
     ∙ sym (passing-lone (b ∷ s) (bracket-none b s (eqb-false b 0x5B g)))
 
 -- after byte 27 and `[`
-ends : (q : State) → Begun q → (h : List ℕ) (next : State → List ℕ → List ℕ) → kept (actOf q 0x6D) h 0x6D next ≡ next Outside []
+ends : (q : State) → Begun q → (h : List ℕ) (next : State → List ℕ → List ℕ) → leftBy (actOf q 0x6D) h 0x6D next ≡ next Outside []
 unfolding actOf actIn
 ends Outside g h next = absurd g
 ends Escape g h next = absurd g
@@ -138,11 +138,11 @@ at-begun q ps b s k g rest false true z e f h =
     subst (λ (b : ℕ). strip q (esc ∷ 0x5B ∷ ps) (b ∷ s) ≡ passing 0 (esc ∷ 0x5B ∷ (ps ++ b ∷ s))) (sym (eqb-true b 0x6D f))
     (ends q k (esc ∷ 0x5B ∷ ps) (λ q′ h′. strip q′ h′ s) ∙ rest Outside [] nothing ∙ sym (passing-done ps s g))
 at-begun q ps b s k g rest false false true e f h =
-    ap (λ (a : Act). kept a (esc ∷ 0x5B ∷ ps) b (λ q′ h′. strip q′ h′ s)) (act-onward q b k h)
+    ap (λ (a : Act). leftBy a (esc ∷ 0x5B ∷ ps) b (λ q′ h′. strip q′ h′ s)) (act-onward q b k h)
     ∙ rest (onward q b) (esc ∷ 0x5B ∷ (ps ++ b ∷ [])) (begun (onward q b) (begun-onward q b) (ps ++ b ∷ []) (parameters-append ps (b ∷ []) g (h, tt)))
     ∙ ap (λ (l : List ℕ). passing 0 (esc ∷ 0x5B ∷ l)) (append-assoc ps (b ∷ []) s)
 at-begun q ps b s k g rest false false false e f h =
-    ap (λ (a : Act). kept a (esc ∷ 0x5B ∷ ps) b (λ q′ h′. strip q′ h′ s)) (act-breaks q b k (eqb-false b esc e) (eqb-false b 0x6D f) h)
+    ap (λ (a : Act). leftBy a (esc ∷ 0x5B ∷ ps) b (λ q′ h′. strip q′ h′ s)) (act-breaks q b k (eqb-false b esc e) (eqb-false b 0x6D f) h)
     ∙ ap (λ (l : List ℕ). esc ∷ 0x5B ∷ (ps ++ b ∷ l)) (rest Outside [] nothing)
     ∙ ap (λ (l : List ℕ). esc ∷ 0x5B ∷ (ps ++ l)) (sym (passing-other b s (eqb-false b esc e)))
     ∙ sym (passing-open ps (b ∷ s) g (stops-at b s (eqb-false b 0x6D f) h))

@@ -3,8 +3,8 @@ use mathlib.Core.Path.{_≡_, refl, ap, sym, _∙_}
 use mathlib.Core.List.{List, []}
 use Prim.Native.Nat.{ℕ, _+_}
 use lib.ListN.{length}
-use Rattle.text.specs.Utf8.{within}
-use Rattle.words.specs.Runs.{digit}
+use Rattle.utf8.specs.Utf8.{within}
+use Rattle.runs.specs.Runs.{digit}
 use Rattle.colour.specs.declared.State.{State}
 use Rattle.colour.specs.declared.State.the-variants.{Outside}
 use Rattle.colour.specs.declared.Scan.{Scan}

@@ -3,7 +3,8 @@ use Prim.Native.Nat.{ℕ, _-_, _/_}
 use mathlib.Core.Bool.{Bool, true, false}
 use mathlib.Core.List.{List, [], _∷_, _++_}
 use lib.ListN.{length, replicate}
-use Rattle.text.specs.Characters.{chars}
+use Rattle.buffer.specs.Bytes.{byte}
+use Rattle.characters.specs.Characters.{chars}
 use Rattle.words.specs.declared.Alignment.{Alignment}
 use Rattle.words.specs.declared.Alignment.the-variants.{Left, Center, Right}
 use Rattle.words.specs.declared.Padding.{Padding}
@@ -48,8 +49,8 @@ before Right n = n
 
 -- "Padding is a space, or `0` on either side"
 unfoldable pub padByte : Padding → ℕ
-padByte Space = 0x20
-padByte Zero = 0x30
+padByte Space = byte " "
+padByte Zero = byte "0"
 
 -- "the whole ends with the reset", where there is a prefix
 unfoldable pub ending : List ℕ → List ℕ
@@ -57,8 +58,8 @@ ending [] = []
 ending (b ∷ p) = reset
 
 -- "prefix, then padding and text, and the whole ends with the reset": n bytes of padding
-unfoldable pub laid : List ℕ → Format → ℕ → List ℕ → List ℕ
-laid p f n t =
+unfoldable pub framed : List ℕ → Format → ℕ → List ℕ → List ℕ
+framed p f n t =
     p ++ (replicate (before (f .alignment) n) (padByte (f .padding))
     ++ (reinserted p t
     ++ (replicate (n - before (f .alignment) n) (padByte (f .padding))
@@ -66,4 +67,4 @@ laid p f n t =
 
 -- a text in its format
 unfoldable pub formatted : Settings → Format → List ℕ → List ℕ
-formatted s f t = laid (prefixIn (s .colour) (f .look)) f (padded s f t) t
+formatted s f t = framed (prefixIn (s .colour) (f .look)) f (padded s f t) t

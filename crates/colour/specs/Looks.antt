@@ -3,7 +3,7 @@ use Prim.Native.Nat.{ℕ}
 use mathlib.Core.Path.{_≡_, refl}
 use mathlib.Core.Bool.{Bool, true, false}
 use mathlib.Core.List.{List, [], _∷_, _++_}
-use Rattle.text.specs.Bytes.{bytes}
+use Rattle.buffer.specs.Bytes.{bytes}
 use Rattle.words.specs.declared.Color.{Color}
 use Rattle.words.specs.declared.Color.the-variants.{Black, Red, Green, Yellow, Blue, Magenta, Cyan, White, BrightBlack, BrightWhite}
 use Rattle.words.specs.declared.Styles.{Styles}
@@ -25,6 +25,7 @@ foreground White = bytes "37"
 foreground BrightBlack = bytes "90"
 foreground BrightWhite = bytes "97"
 
+-- the code of a colour, where one applies
 unfoldable pub inkCodes : Ink → List (List ℕ)
 inkCodes Bare = []
 inkCodes (Inked c) = foreground c ∷ []
@@ -54,6 +55,7 @@ unfoldable pub sequence : List (List ℕ) → List ℕ
 sequence [] = []
 sequence (c ∷ cs) = esc ∷ bytes "[" ++ (c ++ (following cs ++ bytes "m"))
 
+-- the prefix of a look
 unfoldable pub prefix : Look → List ℕ
 prefix k = sequence (codes k)
 

@@ -1,13 +1,13 @@
--- The search for colour sequences, byte by byte, as code goes: what each byte does in each state. That it finds what `visible` and
+-- Scaffolding, for proofs alone: the search for colour sequences, byte by byte, as code goes: what each byte does in each state. That it finds what `visible` and
 -- `reinserted` say is proved (`visible-strip`, `reinserted-ins`). Assumes nothing.
 use Prim.Native.Nat.{ℕ, _+_}
 use mathlib.Core.Path.{_≡_, refl}
 use mathlib.Core.Bool.{cond}
 use mathlib.Core.List.{List, [], _∷_, _++_}
 use lib.Dec.{eqb}
-use Rattle.text.specs.Bytes.{bytes}
-use Rattle.text.specs.Utf8.{within}
-use Rattle.words.specs.Runs.{digit}
+use Rattle.buffer.specs.Bytes.{byte, bytes}
+use Rattle.utf8.specs.Utf8.{within}
+use Rattle.runs.specs.Runs.{digit}
 use Rattle.colour.specs.declared.State.{State}
 use Rattle.colour.specs.declared.State.the-variants.{Outside, Escape, Bracket, LoneZero, Digits}
 use Rattle.colour.specs.declared.Act.{Act}
@@ -19,14 +19,14 @@ use Rattle.colour.specs.Sequences.{esc, inSequence}
 
 -- a byte among digits and `;`: `m` ends the sequence, a digit or `;` goes on with it, any other byte shows that there is none
 abbrev pub actAmong : Act → State → ℕ → Act
-actAmong ending onward b = cond (eqb b 0x6D) ending (cond (inSequence b) (More onward) Text)
+actAmong ending onward b = cond (eqb b (byte "m")) ending (cond (inSequence b) (More onward) Text)
 
 -- a byte other than 27 in each state: `Outside` any sequence, after byte 27 (`Escape`), after that and `[` (`Bracket`), after those and
 -- a single `0` (`LoneZero`), after those and any other digits and `;` (`Digits`)
 unfoldable pub actIn : State → ℕ → Act
 actIn Outside b = Text
-actIn Escape b = cond (eqb b 0x5B) (More Bracket) Text
-actIn Bracket b = actAmong Done (cond (eqb b 0x30) LoneZero Digits) b
+actIn Escape b = cond (eqb b (byte "[")) (More Bracket) Text
+actIn Bracket b = actAmong Done (cond (eqb b (byte "0")) LoneZero Digits) b
 actIn LoneZero b = actAmong Reset Digits b
 actIn Digits b = actAmong Done Digits b
 
@@ -73,17 +73,17 @@ start = resting 0 0
 -- ---- what is visible
 
 -- what is left from a byte on, where h is held back and `rest` gives what is left after the byte
-abbrev pub kept : Act → List ℕ → ℕ → (State → List ℕ → List ℕ) → List ℕ
-kept Text h b rest = h ++ b ∷ rest Outside []
-kept Esc h b rest = h ++ rest Escape (b ∷ [])
-kept (More q) h b rest = rest q (h ++ b ∷ [])
-kept Done h b rest = rest Outside []
-kept Reset h b rest = rest Outside []
+abbrev pub leftBy : Act → List ℕ → ℕ → (State → List ℕ → List ℕ) → List ℕ
+leftBy Text h b rest = h ++ b ∷ rest Outside []
+leftBy Esc h b rest = h ++ rest Escape (b ∷ [])
+leftBy (More q) h b rest = rest q (h ++ b ∷ [])
+leftBy Done h b rest = rest Outside []
+leftBy Reset h b rest = rest Outside []
 
 -- a text without its colour sequences; h is held back until it is known whether it begins one
 abbrev pub strip : State → List ℕ → List ℕ → List ℕ
 strip q h [] = h
-strip q h (b ∷ s) = kept (actOf q b) h b (λ q′ h′. strip q′ h′ s)
+strip q h (b ∷ s) = leftBy (actOf q b) h b (λ q′ h′. strip q′ h′ s)
 
 -- ---- what is inserted
 
@@ -100,6 +100,6 @@ abbrev pub ins : List ℕ → State → List ℕ → List ℕ
 ins p q [] = []
 ins p q (b ∷ s) = b ∷ behind (actOf q b) p ++ ins p (after (actOf q b)) s
 
-counted : scan start (bytes "a\u{1b}[\u{1b}[1mm\u{1b}[0m\u{1b}[0;7mb\u{1b}[0") ≡ record { state = LoneZero; held = 3; sequences = 14; resets = 1 }
+searched : scan start (bytes "a\u{1b}[\u{1b}[1mm\u{1b}[0m\u{1b}[0;7mb\u{1b}[0") ≡ record { state = LoneZero; held = 3; sequences = 14; resets = 1 }
 unfolding actOf actIn inSequence digit within
-counted = refl
+searched = refl

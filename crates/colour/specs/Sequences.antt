@@ -5,9 +5,9 @@ use mathlib.Core.Path.{_≡_, refl}
 use mathlib.Core.Bool.{Bool, true, false, _||_}
 use mathlib.Core.List.{List, [], _∷_, _++_}
 use lib.Dec.{eqb}
-use Rattle.text.specs.Bytes.{bytes}
-use Rattle.text.specs.Utf8.{within}
-use Rattle.words.specs.Runs.{digit}
+use Rattle.buffer.specs.Bytes.{byte, bytes}
+use Rattle.utf8.specs.Utf8.{within}
+use Rattle.runs.specs.Runs.{digit}
 
 -- byte 27, written ESC
 abbrev pub esc : ℕ
@@ -26,17 +26,17 @@ longer (suc n) = suc (suc n)
 
 -- "any digits and `;`"
 unfoldable pub inSequence : ℕ → Bool
-inSequence b = digit b || eqb b 0x3B
+inSequence b = digit b || eqb b (byte ";")
 
 -- "any digits and `;`, `m`": its length where the text begins so, else 0
 unfoldable pub tailLength : List ℕ → ℕ
 tailLength [] = 0
-tailLength (b ∷ s) = elim (eqb b 0x6D) [ true ↦ 1 | false ↦ elim (inSequence b) [ true ↦ longer (tailLength s) | false ↦ 0 ] ]
+tailLength (b ∷ s) = elim (eqb b (byte "m")) [ true ↦ 1 | false ↦ elim (inSequence b) [ true ↦ longer (tailLength s) | false ↦ 0 ] ]
 
 -- "`[`, any digits and `;`, `m`"
 unfoldable pub bracketLength : List ℕ → ℕ
 bracketLength [] = 0
-bracketLength (b ∷ s) = elim (eqb b 0x5B) [ true ↦ longer (tailLength s) | false ↦ 0 ]
+bracketLength (b ∷ s) = elim (eqb b (byte "[")) [ true ↦ longer (tailLength s) | false ↦ 0 ]
 
 -- "a colour sequence is byte 27, `[`, any digits and `;`, `m`"
 unfoldable pub sequenceLength : List ℕ → ℕ
@@ -62,6 +62,7 @@ visible s = passing 0 s
 
 -- ---- what is inserted
 
+-- whether a text begins with another
 unfoldable pub startsWith : List ℕ → List ℕ → Bool
 startsWith [] s = true
 startsWith (a ∷ x) [] = false

@@ -5,15 +5,16 @@ use mathlib.Core.Path.{_≡_, refl, ap, sym, _∙_}
 use mathlib.Core.Bool.{true, false}
 use mathlib.Core.List.{List}
 use lib.ListN.{length}
-use Rattle.text.specs.Table.{Maybe, none, some}
+use Rattle.buffer.specs.Table.{Maybe, none, some}
 use Rattle.refusals.specs.declared.Refusal.{Refusal}
 use Rattle.refusals.specs.declared.Refusal.the-variants.{TemplateTooLong, TemplateNotUtf8, Failure, NoMessage, TooManySegments, TooDeep, TooWide, TooManyF, HalfEscape, NameTouchesLetter, FieldTooLong, FieldNotUtf8, LineTooLong, NotARecord, NotASheet}
 use Rattle.refusals.specs.Numbers.{number}
 use Rattle.segments.specs.Segments.{LogSegments}
 use Rattle.template.specs.Template.{Template, read, readTemplate}
 use Rattle.record.specs.Layout.{Laid, laidOut}
-use Rattle.record.specs.Checks.{recordRefusal}
-use Rattle.answer.specs.Answers.{Outcome, refused, passed, recordOutcome, byTemplate, outcome, isCall, callOutcome, settingsOf, bufferAfter, packed}
+use Rattle.checks.specs.Checks.{recordRefusal}
+use Rattle.answer.specs.Answers.{Outcome, refused, passed, recordOutcome, byTemplate, outcome, isCall, callOutcome, bufferAfter, packed}
+use Rattle.settings.specs.Bits.{settingsOf}
 use Rattle.demands.specs.Entries.{Meets, Demand1, Demand2}
 
 -- any two results that meet an outcome are equal: of `pralakuon_line`, `pralakuon_session` and `pralakuon_builtin` alike

@@ -13,7 +13,8 @@ use Rattle.colour.proofs.Trees.{eachs-all}
 use Rattle.colour.proofs.Shows.{Shows, shows-visible, shows-nil, shows-append, shows-free, visible-free, free-append}
 use Rattle.colour.proofs.Counts.{due-any-mode}
 use Rattle.colour.proofs.Formatted.{withPadding, shows-formatted, formatted-plain, free-with-padding, count-formatted, padded-plain, padded-straight, padded-crate}
-use Rattle.demands.specs.Demand3.{plain, straight, coloured, Fills, FallsShort, Demand3}
+use Rattle.demands.specs.Demand3.{Fills, FallsShort, Demand3}
+use Rattle.colour.specs.Modes.{plain, straight, coloured}
 
 -- ---- one specifier or group
 

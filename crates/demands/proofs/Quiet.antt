@@ -7,8 +7,8 @@ use native.Mathlib.Omega.{arith}
 use lib.Dec.{eqb, ltb}
 use lib.ListN.{length, drop}
 use borrow.Author.Tests.{ltb-true}
-use Rattle.text.specs.Bytes.{bytes, same}
-use Rattle.text.specs.Table.{Maybe, none, some}
+use Rattle.buffer.specs.Bytes.{bytes, same}
+use Rattle.buffer.specs.Table.{Maybe, none, some}
 use Rattle.words.specs.declared.LogMetadata.{LogMetadata}
 use Rattle.words.specs.declared.LogMetadata.the-variants.{CrateName, FileName, FilePath, LineNumber, Log, LogLevel, ModulePath, Timestamp}
 use Rattle.words.specs.declared.LogFormat.{LogFormat}
@@ -22,9 +22,9 @@ use Rattle.record.specs.declared.Source.the-variants.{Defmt, Host}
 use Rattle.record.specs.declared.Level.{Level}
 use Rattle.record.specs.declared.Level.the-variants.{Print, Error, Warn, Info, Debug, Trace}
 use Rattle.record.specs.Records.{Given, absent, given, Record}
-use Rattle.fields.specs.Levels.{nameOf}
-use Rattle.fields.specs.Paths.{before-first, pieces, isDropped, kept, root, components, lastOf, slashed, joinedBySlash, fileName, after-byte, beforeColons}
-use Rattle.fields.specs.Texts.{orPlaceholder, there, digits, decimalText, notEmpty, timeOf, wording}
+use Rattle.formats.specs.Levels.{nameOf}
+use Rattle.paths.specs.Paths.{before-first, pieces, isDropped, kept, root, components, lastOf, slashed, joinedBySlash, fileName, after-byte, beforeColons}
+use Rattle.fields.specs.Texts.{noCrate, noFile, noModule, noTime, orPlaceholder, there, digits, decimalText, notEmpty, timeOf, wording}
 use Rattle.fields.specs.Lines.{inFormat, messageFrom, specifierShown, segmentShown, segmentsShown, recordShown}
 use Rattle.demands.specs.Lines.{FreeGiven, FreeRecord, FreeSegment, FreeSegments}
 
@@ -141,13 +141,12 @@ free-digits (suc k) n = free-digits-at n (ltb n 10) (digits k (n / 10)) (free-di
 -- ---- every specifier
 
 free-name : (l : Level) → Free (nameOf l)
-unfolding nameOf
 free-name Print = tt
-free-name Error = free-by-test (bytes "ERROR") refl
-free-name Warn = free-by-test (bytes "WARN") refl
-free-name Info = free-by-test (bytes "INFO") refl
-free-name Debug = free-by-test (bytes "DEBUG") refl
-free-name Trace = free-by-test (bytes "TRACE") refl
+free-name Error = free-by-test (nameOf Error) refl
+free-name Warn = free-by-test (nameOf Warn) refl
+free-name Info = free-by-test (nameOf Info) refl
+free-name Debug = free-by-test (nameOf Debug) refl
+free-name Trace = free-by-test (nameOf Trace) refl
 
 free-not-empty : (t : List ℕ) → Free t → FreeMaybe (notEmpty t)
 unfolding notEmpty
@@ -161,14 +160,14 @@ free-time Host t f = tt
 
 free-wording : (r : Record) → FreeRecord r → (m : LogMetadata) → Free (wording r m)
 unfolding wording decimalText
-free-wording r f CrateName = free-or (bytes "<crate>") (free-by-test (bytes "<crate>") refl) (there beforeColons (r .modulePath)) (free-there beforeColons free-before-colons (r .modulePath) (f .modulePath))
-free-wording r f (FileName n) = free-or (bytes "<file>") (free-by-test (bytes "<file>") refl) (there (fileName n) (r .file)) (free-there (fileName n) (free-file-name n) (r .file) (f .file))
-free-wording r f FilePath = free-or (bytes "<file>") (free-by-test (bytes "<file>") refl) (there some (r .file)) (free-there some (λ t h. h) (r .file) (f .file))
+free-wording r f CrateName = free-or noCrate (free-by-test noCrate refl) (there beforeColons (r .modulePath)) (free-there beforeColons free-before-colons (r .modulePath) (f .modulePath))
+free-wording r f (FileName n) = free-or noFile (free-by-test noFile refl) (there (fileName n) (r .file)) (free-there (fileName n) (free-file-name n) (r .file) (f .file))
+free-wording r f FilePath = free-or noFile (free-by-test noFile refl) (there some (r .file)) (free-there some (λ t h. h) (r .file) (f .file))
 free-wording r f LineNumber = free-digits 10 (r .line)
 free-wording r f Log = f .message
 free-wording r f LogLevel = free-name (r .level)
-free-wording r f ModulePath = free-or (bytes "<mod path>") (free-by-test (bytes "<mod path>") refl) (there some (r .modulePath)) (free-there some (λ t h. h) (r .modulePath) (f .modulePath))
-free-wording r f Timestamp = free-or (bytes "<time>") (free-by-test (bytes "<time>") refl) (timeOf (r .source) (r .timestamp)) (free-time (r .source) (r .timestamp) (f .timestamp))
+free-wording r f ModulePath = free-or noModule (free-by-test noModule refl) (there some (r .modulePath)) (free-there some (λ t h. h) (r .modulePath) (f .modulePath))
+free-wording r f Timestamp = free-or noTime (free-by-test noTime refl) (timeOf (r .source) (r .timestamp)) (free-time (r .source) (r .timestamp) (f .timestamp))
 
 -- ---- whatever is shown
 

@@ -3,28 +3,14 @@
 -- It is said of any settings and of whatever is shown; `joined s m` is the line of the members m in the settings s. Assumes nothing.
 use Prim.Native.Nat.{ℕ, _+_, min, max}
 use mathlib.Core.Path.{_≡_}
-use mathlib.Core.Bool.{true, false}
 use mathlib.Core.List.{List}
 use Rattle.colour.specs.declared.Settings.{Settings}
 use Rattle.colour.specs.declared.Format.{Format}
+use Rattle.colour.specs.Modes.{plain, straight, coloured}
 use Rattle.colour.specs.Sequences.{visible}
 use Rattle.colour.specs.Formatting.{count, due, prefixIn, inserted, padded, formatted}
 use Rattle.colour.specs.Shown.{Members, joined}
 use Rattle.colour.specs.Texts.{Free, Quiets, Eachs}
-
--- ---- the three modes
-
--- the same settings with colour off
-abbrev pub plain : Settings → Settings
-plain s = record { colour = false; straight = s .straight }
-
--- the same settings with colour on, in straight mode
-abbrev pub straight : Settings → Settings
-straight s = record { colour = true; straight = true }
-
--- the same settings with colour on, in the crate's mode
-abbrev pub coloured : Settings → Settings
-coloured s = record { colour = true; straight = false }
 
 -- ---- one specifier or group: its format f, and its text t before it is formatted
 

@@ -3,35 +3,30 @@ use Prim.Native.Nat.{ℕ}
 use mathlib.Core.Path.{_≡_, refl}
 use mathlib.Core.Bool.{Bool, true, false}
 use mathlib.Core.List.{List, [], _∷_}
-use Rattle.text.specs.Bytes.{bytes}
+use Rattle.buffer.specs.Bytes.{bytes}
 use Rattle.refusals.specs.Numbers.{number}
 use Rattle.colour.specs.declared.Settings.{Settings}
 use Rattle.colour.specs.Sequences.{visible}
 use Rattle.record.specs.Layout.{Laid}
+use Rattle.colour.specs.Modes.{off, plain, straight, coloured}
 use Rattle.answer.specs.Answers.{Outcome, line, refused, outcome}
-use Rattle.text.specs.Bytes as text-bytes
-use Rattle.text.specs.Table as text-table
-use Rattle.text.specs.Utf8 as text-utf8
-use Rattle.text.specs.Characters as text-characters
-use Rattle.words.specs.Runs as words-runs
-use Rattle.words.specs.Trying as words-trying
-use Rattle.words.specs.Words as words-words
-use Rattle.segments.specs.Segments as segments-segments
-use Rattle.parts.specs.Parts as parts-parts
-use Rattle.template.specs.Braces as template-braces
-use Rattle.template.specs.Reading as template-reading
-use Rattle.template.specs.Template as template-template
-use Rattle.colour.specs.Sequences as colour-sequences
-use Rattle.colour.specs.Looks as colour-looks
-use Rattle.colour.specs.Formatting as colour-formatting
-use Rattle.colour.specs.Shown as colour-shown
-use Rattle.fields.specs.Levels as fields-levels
-use Rattle.fields.specs.Paths as fields-paths
-use Rattle.fields.specs.Texts as fields-texts
-use Rattle.fields.specs.Formats as fields-formats
-use Rattle.fields.specs.Lines as fields-lines
-use Rattle.record.specs.Checks as record-checks
-use Rattle.answer.specs.Answers as answer-answers
+use Rattle.buffer.specs.Computing as buffer
+use Rattle.utf8.specs.Computing as utf8
+use Rattle.characters.specs.Computing as characters
+use Rattle.runs.specs.Computing as runs
+use Rattle.words.specs.Computing as words
+use Rattle.segments.specs.Computing as segments
+use Rattle.parts.specs.Computing as parts
+use Rattle.braces.specs.Computing as braces
+use Rattle.building.specs.Computing as building
+use Rattle.template.specs.Computing as template
+use Rattle.colour.specs.Computing as colour
+use Rattle.record.specs.Computing as records
+use Rattle.checks.specs.Computing as checks
+use Rattle.formats.specs.Computing as formats
+use Rattle.paths.specs.Computing as paths
+use Rattle.fields.specs.Computing as fields
+use Rattle.answer.specs.Computing as answer
 
 -- what an example says of a template and a record
 pub data Says : Type 0 where
@@ -40,6 +35,7 @@ pub data Says : Type 0 where
   reads : Says
   refuses : ℕ → Says
 
+-- one example: settings, record, template, and what it says
 pub record Example : Type 0 where
   pub settings : Settings
   pub record′ : Laid
@@ -47,15 +43,6 @@ pub record Example : Type 0 where
   pub says : Says
 
 -- ---- the records of the examples: "INFO, message `hello`, colour off unless said"
-
-abbrev plain : Settings
-plain = record { colour = false; straight = false }
-
-abbrev coloured : Settings
-coloured = record { colour = true; straight = false }
-
-abbrev straight : Settings
-straight = record { colour = true; straight = true }
 
 -- from the device, with a level and perhaps a file
 abbrev hello : ℕ → ℕ → List ℕ → Laid
@@ -84,28 +71,30 @@ info-in-a-b = hello 3 1 (bytes "/a/b.rs")
 abbrev example : Settings → Laid → List ℕ → Says → Example
 example s d t x = record { settings = s; record′ = d; template = t; says = x }
 
+-- the fourteen, each * with the case right after it; the last in its three modes
 abbrev pub examples : List Example
 examples =
-    example plain info (bytes "[{L}] {s}") (prints (bytes "[INFO ] hello"))
-    ∷ example plain info (bytes "{L:07} {s}") (prints (bytes "INFO000 hello"))
-    ∷ example plain info (bytes "{L:^7} {s}") (prints (bytes " INFO   hello"))
-    ∷ example plain info (bytes "{s:bold:bold}") (refuses 3)
-    ∷ example plain info (bytes "{s:bold:underline:italic}") reads
-    ∷ example plain info (bytes "{s}%x") (prints (bytes "hello"))
-    ∷ example plain info (bytes "{t}") (refuses 4)
-    ∷ example plain info (bytes "{}") (refuses 3)
-    ∷ example plain info (bytes "{s}{t") (prints (bytes "hello"))
-    ∷ example plain info (bytes "{s\\") (refuses 9)
-    ∷ example plain info (bytes "{{[{L}]} x} {s}") (refuses 3)
-    ∷ example plain info (bytes "{[{L}]%bold:<12} {s}") (prints (bytes "[INFO ]:<12 hello"))
-    ∷ example plain info-in-a-b (bytes "{ff}{s}") (prints (bytes "a/b.rshello"))
-    ∷ example coloured error (bytes "{[{L}]%bold%<9}|{s}") (prints-visibly (bytes "[ERROR]|hello"))
-    ∷ example straight error (bytes "{[{L}]%bold%<9}|{s}") (prints-visibly (bytes "[ERROR]  |hello"))
-    ∷ example plain error (bytes "{[{L}]%bold%<9}|{s}") (prints (bytes "[ERROR]  |hello"))
+    example (plain off) info (bytes "[{L}] {s}") (prints (bytes "[INFO ] hello"))
+    ∷ example (plain off) info (bytes "{L:07} {s}") (prints (bytes "INFO000 hello"))
+    ∷ example (plain off) info (bytes "{L:^7} {s}") (prints (bytes " INFO   hello"))
+    ∷ example (plain off) info (bytes "{s:bold:bold}") (refuses 3)
+    ∷ example (plain off) info (bytes "{s:bold:underline:italic}") reads
+    ∷ example (plain off) info (bytes "{s}%x") (prints (bytes "hello"))
+    ∷ example (plain off) info (bytes "{t}") (refuses 4)
+    ∷ example (plain off) info (bytes "{}") (refuses 3)
+    ∷ example (plain off) info (bytes "{s}{t") (prints (bytes "hello"))
+    ∷ example (plain off) info (bytes "{s\\") (refuses 9)
+    ∷ example (plain off) info (bytes "{{[{L}]} x} {s}") (refuses 3)
+    ∷ example (plain off) info (bytes "{[{L}]%bold:<12} {s}") (prints (bytes "[INFO ]:<12 hello"))
+    ∷ example (plain off) info-in-a-b (bytes "{ff}{s}") (prints (bytes "a/b.rshello"))
+    ∷ example (coloured off) error (bytes "{[{L}]%bold%<9}|{s}") (prints-visibly (bytes "[ERROR]|hello"))
+    ∷ example (straight off) error (bytes "{[{L}]%bold%<9}|{s}") (prints-visibly (bytes "[ERROR]  |hello"))
+    ∷ example (plain off) error (bytes "{[{L}]%bold%<9}|{s}") (prints (bytes "[ERROR]  |hello"))
     ∷ []
 
 -- ---- what the definitions say, put as the example puts it
 
+-- an outcome, put as the example puts it
 unfoldable pub put-as : Says → Outcome → Says
 put-as (prints w) (line s) = prints s
 put-as (prints w) (refused r) = refuses (number r)
@@ -118,14 +107,18 @@ put-as (refuses n) (refused r) = refuses (number r)
 
 -- room enough for each of them
 pub said : List Example → List Says
-unfolding text-bytes.same text-table.lookup text-utf8.within text-utf8.begun text-utf8.step text-characters.begins words-runs.letter words-runs.digit words-runs.lower words-runs.lowered words-runs.decimal words-runs.stands words-runs.runEnd words-runs.touches words-trying._or-else_ words-trying._then_ words-trying.while-it-fits words-trying.repeated words-trying.further words-trying.listed words-words.sense words-words.fileName words-words.repeatedF words-words.orRepeatedF words-words.specifierOf words-words.either words-words.parameterOf words-words.sensed words-words.nameTo words-words.name words-words.specifierAt words-words.paddingOf words-words.widthOf words-words.digitsTo words-words.aligned words-words.byteAt words-words.widthAt words-words.parameterAt segments-segments._and-then_ segments-segments.isSpecifier segments-segments.anySpecifier segments-segments.isLog segments-segments.isTimestamp segments-segments.isWanted segments-segments.namedIn parts-parts.hasSpecifier parts-parts.hasColour parts-parts.hasWidth parts-parts.hasStyle parts-parts.withStyle parts-parts.asking parts-parts.asks parts-parts.withSpecifier parts-parts.withParameter parts-parts.specified parts-parts.segmentOf template-braces.markOf template-braces.marked template-braces.closing template-reading.make template-reading.makeOr template-reading.plainByte template-reading.textTo template-reading.textAt template-reading.wordAt template-reading.innerAt template-reading.withWords template-reading.taking template-reading.withSegment template-reading.oddItem template-reading.evenItem template-reading.built template-reading.noContent template-reading.itemAt template-reading.separator template-reading.contentAt template-reading.withMember template-reading.withAsked template-reading.percentAt template-reading.pieceAt template-reading.closed template-reading.noGroup template-reading.groupAt template-reading.braceTo template-reading.braceAt template-reading.insideAt template-reading.withTop template-reading.topAt template-template.withMessage template-template.ended template-template.topLevel template-template.readTemplate template-template.namesTimestamp colour-sequences.longer colour-sequences.inSequence colour-sequences.tailLength colour-sequences.bracketLength colour-sequences.sequenceLength colour-sequences.unlessSequence colour-sequences.passing colour-sequences.visible colour-sequences.startsWith colour-sequences.restOfReset colour-sequences.copying colour-sequences.reinserted colour-looks.foreground colour-looks.inkCodes colour-looks.where-it-applies colour-looks.codes colour-looks.following colour-looks.sequence colour-looks.prefix colour-formatting.count colour-formatting.due colour-formatting.prefixIn colour-formatting.inserted colour-formatting.counted colour-formatting.padded colour-formatting.before colour-formatting.padByte colour-formatting.ending colour-formatting.laid colour-formatting.formatted colour-shown.textOf fields-levels.nameOf fields-levels.severity fields-levels.warning fields-levels.inkFor fields-paths.before-first fields-paths.pieces fields-paths.isDropped fields-paths.kept fields-paths.root fields-paths.components fields-paths.lastOf fields-paths.slashed fields-paths.joinedBySlash fields-paths.fileName fields-paths.after-byte fields-paths.beforeColons fields-texts.orPlaceholder fields-texts.there fields-texts.digits fields-texts.decimalText fields-texts.notEmpty fields-texts.timeOf fields-texts.wording fields-formats.defaultWidth fields-formats.ownInk fields-formats.widthFor fields-formats.formatFor fields-formats.specifierFormat fields-formats.groupFormat fields-lines.inFormat fields-lines.messageFrom fields-lines.specifierShown fields-lines.recordShown fields-lines.lineOf fields-lines.segmentShown record-checks.hasFile record-checks.hasLine record-checks.hasModule record-checks.hostWithoutLevel record-checks.absentButThere record-checks.badlyMarked record-checks.fieldRefusal record-checks.orNext record-checks.fieldsRefusal record-checks.recordRefusal record-checks.sourceOf record-checks.levelAt record-checks.levelOf record-checks.givenIf record-checks.recordOf answer-answers.inRoom answer-answers.passed answer-answers.recordOutcome answer-answers.byTemplate answer-answers.outcome answer-answers.isCall answer-answers.callOutcome answer-answers.answerOf
+unfolding buffer.computes utf8.computes characters.computes runs.computes words.computes
+    segments.computes parts.computes braces.computes building.computes template.computes
+    colour.computes records.computes checks.computes formats.computes paths.computes fields.computes answer.computes
 said [] = []
 said (x ∷ rest) = put-as (x .says) (outcome (x .settings) (x .template) (x .record′) 100) ∷ said rest
 
+-- what the examples say
 pub expected : List Example → List Says
 expected [] = []
 expected (x ∷ rest) = x .says ∷ expected rest
 
+-- the definitions say what the examples say
 pub starred : said examples ≡ expected examples
 unfolding said expected put-as
 starred = refl

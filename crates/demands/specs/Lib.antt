@@ -3,4 +3,4 @@ pub mod Demand3
 pub mod Entries
 pub mod Examples
 pub mod Lines
-pub mod Modes
+pub mod OneLine

@@ -2,17 +2,19 @@
 use Prim.Native.Nat.{ℕ}
 use mathlib.Core.Path.{_≡_}
 use mathlib.Core.List.{List}
-use Rattle.text.specs.Bytes.{part}
+use Rattle.buffer.specs.Bytes.{part}
 use Rattle.colour.specs.declared.Settings.{Settings}
 use Rattle.colour.specs.Sequences.{visible}
 use Rattle.colour.specs.Texts.{Free, Eachs}
 use Rattle.segments.specs.Segments.{LogSegment, LogSegments, text, specifier, group, none, more}
 use Rattle.record.specs.Records.{Given, absent, given, Record}
 use Rattle.fields.specs.Lines.{recordShown, lineOf}
-use Rattle.demands.specs.Demand3.{plain, straight, coloured, Fills, FallsShort}
+use Rattle.demands.specs.Demand3.{Fills, FallsShort}
+use Rattle.colour.specs.Modes.{plain, straight, coloured}
 
 -- ---- texts without byte 27
 
+-- of a text that may be absent
 abbrev pub FreeGiven : Given → Type 0
 FreeGiven absent = Unit {0}
 FreeGiven (given t) = Free t

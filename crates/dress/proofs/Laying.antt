@@ -4,15 +4,15 @@ use mathlib.Core.List.{List, [], _++_, append-assoc}
 use Prim.Native.Nat.{ℕ, _+_, _-_, _≤_}
 use native.Mathlib.Omega.{arith}
 use lib.ListN.{length, take, length-append, replicate, length-replicate}
-use Rattle.text.specs.Bytes.{part}
-use Rattle.text.specs.Buffer.{putAt}
-use Rattle.text.proofs.Parts.{part-length}
-use Rattle.text.proofs.Writing.{put-drop, join}
+use Rattle.buffer.specs.Bytes.{part}
+use Rattle.buffer.specs.Buffer.{putAt}
+use Rattle.buffer.proofs.Parts.{part-length}
+use Rattle.buffer.proofs.Writing.{put-drop, join}
 use Rattle.colour.specs.declared.State.the-variants.{Outside}
 use Rattle.colour.specs.declared.Format.{Format}
 use Rattle.colour.specs.Sequences.{reset, reinserted}
 use Rattle.colour.specs.Looks.{prefix}
-use Rattle.colour.specs.Formatting.{before, padByte, laid}
+use Rattle.colour.specs.Formatting.{before, padByte, framed}
 use Rattle.colour.specs.Machine.{ins}
 use Rattle.colour.proofs.Inserting.{length-ins}
 use Rattle.colour.proofs.Reinserted.{reinserted-ins}
@@ -69,8 +69,8 @@ text-searched p x s l r y z h g =
 -- what is written is the text laid out, where there is a prefix and the padding is divided as the alignment asks
 pub written-laid : (f : Format) (n l r : ℕ) (t : List ℕ) → l ≡ before (f .alignment) n → l + r ≡ n → (prefix (f .look) ≡ [] → ⊥)
     → prefix (f .look) ++ (replicate l (padByte (f .padding)) ++ (reinserted (prefix (f .look)) t ++ (replicate r (padByte (f .padding)) ++ reset)))
-    ≡ laid (prefix (f .look)) f n t
-unfolding laid
+    ≡ framed (prefix (f .look)) f n t
+unfolding framed
 written-laid f n l r t b s h =
     let p = prefix (f .look) in
     let z = padByte (f .padding) in

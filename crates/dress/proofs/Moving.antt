@@ -6,17 +6,17 @@ use native.Mathlib.Numerals.{add-one}
 use native.Mathlib.Omega.{arith}
 use lib.ListN.{length, take, drop, getD, set, take-append-drop, length-append, length-set}
 use lib.Seq.{take-suc-set, drop-set-lt, drop-drop}
-use Rattle.text.specs.Bytes.{part}
-use Rattle.text.specs.Buffer.{putAt}
-use Rattle.text.proofs.Parts.{same-byte, drop-more, part-step, part-length, part-end}
-use Rattle.text.proofs.Writing.{put-drop, put-take}
+use Rattle.buffer.specs.Bytes.{part}
+use Rattle.buffer.specs.Buffer.{putAt}
+use Rattle.buffer.proofs.Parts.{same-byte, drop-more, part-step, part-length, part-end}
+use Rattle.buffer.proofs.Writing.{put-drop, put-take}
 use Rattle.colour.specs.declared.State.{State}
 use Rattle.colour.specs.declared.State.the-variants.{Outside}
 use Rattle.colour.specs.declared.Act.{Act}
 use Rattle.colour.specs.declared.Act.the-variants.{Reset}
 use Rattle.colour.specs.Machine.{actOf, after, behind, ins}
 use Rattle.colour.proofs.Inserting.{added, length-ins}
-use Rattle.dress.specs.declared.in_place.Next.{Next}
+use Rattle.dress.specs.declared.Next.{Next}
 use Rattle.dress.specs.Moving.{Moved}
 
 -- ---- one byte

@@ -8,12 +8,12 @@ use lib.Dec.{eqb}
 use lib.ListN.{length, getD}
 use lib.Seq.{append-snoc}
 use borrow.Author.Tests.{eq-eqb, ne-eqb}
-use Rattle.text.specs.Bytes.{bytes, part, same}
-use Rattle.text.specs.Table.{Maybe, none, some}
-use Rattle.text.proofs.Parts.{part-step, part-end, part-length}
-use Rattle.fields.specs.Paths.{after-byte, beforeColons}
+use Rattle.buffer.specs.Bytes.{bytes, part, same}
+use Rattle.buffer.specs.Table.{Maybe, none, some}
+use Rattle.buffer.proofs.Parts.{part-step, part-end, part-length}
+use Rattle.paths.specs.Paths.{after-byte, beforeColons}
 use Rattle.fields.specs.Texts.{orPlaceholder}
-use Rattle.fields.proofs.Pieces.{eqb-sym, part-snoc, part-two}
+use Rattle.paths.proofs.Pieces.{eqb-sym, part-snoc, part-two}
 
 -- ---- two colons
 

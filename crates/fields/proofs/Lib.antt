@@ -1,4 +1,2 @@
 pub mod Colons
-pub mod Pieces
-pub mod Short
 pub mod Texts

@@ -5,24 +5,24 @@ use mathlib.Core.List.{List, [], _∷_}
 use Prim.Native.Nat.{ℕ, _/_, _%_, _<_, _≤_}
 use lib.Dec.{eqb}
 use lib.ListN.{length, getD}
-use Rattle.text.specs.Bytes.{bytes, part}
-use Rattle.text.specs.Table.{Maybe, none, some}
-use Rattle.text.proofs.Parts.{part-step}
+use Rattle.buffer.specs.Bytes.{part}
+use Rattle.buffer.specs.Table.{Maybe, none, some}
+use Rattle.buffer.proofs.Parts.{part-step}
 use Rattle.words.specs.declared.LogMetadata.{LogMetadata}
 use Rattle.words.specs.declared.LogMetadata.the-variants.{CrateName, FileName, FilePath, LineNumber, Log, LogLevel, ModulePath, Timestamp}
 use Rattle.record.specs.declared.Places.{Places}
 use Rattle.record.specs.declared.Source.{Source}
 use Rattle.record.specs.Records.{Given, absent, given, Record}
-use Rattle.record.specs.Layout.{laidBy}
-use Rattle.record.specs.Checks.{hasFile, hasModule, givenIf, sourceOf, levelOf, recordOf}
+use Rattle.record.specs.Placed.{laidBy}
+use Rattle.record.specs.Contents.{hasFile, hasModule, givenIf, sourceOf, levelOf, recordOf}
 use Rattle.fields.specs.declared.Fixed.{Fixed}
 use Rattle.fields.specs.declared.Wording.{Wording}
-use Rattle.fields.specs.Levels.{nameOf}
-use Rattle.fields.specs.Paths.{fileName, beforeColons}
-use Rattle.fields.specs.Texts.{orPlaceholder, there, notEmpty, timeOf, wording}
+use Rattle.formats.specs.Levels.{nameOf}
+use Rattle.paths.specs.Paths.{fileName, beforeColons}
+use Rattle.fields.specs.Texts.{noCrate, noFile, noModule, noTime, orPlaceholder, there, notEmpty, timeOf, wording}
 use Rattle.fields.specs.Wordings.{fixedText, bytesOf}
 use Rattle.fields.specs.Worded.{Worded}
-use Rattle.fields.proofs.Pieces.{part-none}
+use Rattle.paths.proofs.Pieces.{part-none}
 
 not-empty : (s : List ℕ) (b : ℕ) (t : List ℕ) → s ≡ b ∷ t → notEmpty s ≡ some s
 unfolding notEmpty
@@ -38,11 +38,11 @@ module _ (p : Places) (d : List ℕ) where
 
     pub path-there : bytesOf (Wording.Part (p .«file_from») (p .«file_to»)) d ≡ wording (recordOf (laidBy p d)) FilePath
     unfolding bytesOf wording there orPlaceholder
-    path-there = ap (λ (x : Given). orPlaceholder (bytes "<file>") (there some x)) file-there
+    path-there = ap (λ (x : Given). orPlaceholder noFile (there some x)) file-there
 
     pub name-there : (n : ℕ) → bytesOf (Wording.Components (p .«file_from») (p .«file_to») n) d ≡ wording (recordOf (laidBy p d)) (FileName n)
     unfolding bytesOf wording there
-    name-there n = ap (λ (x : Given). orPlaceholder (bytes "<file>") (there (fileName n) x)) file-there
+    name-there n = ap (λ (x : Given). orPlaceholder noFile (there (fileName n) x)) file-there
 
   module _ (h : eqb (p .mask % 2) 1 ≡ false) where
     file-absent : absent ≡ recordOf (laidBy p d) .file
@@ -50,12 +50,12 @@ module _ (p : Places) (d : List ℕ) where
     file-absent = ap (λ (b : Bool). givenIf b (part (p .«file_from») (p .«file_to») d)) (sym h)
 
     pub path-absent : bytesOf (Wording.Fixed Fixed.File) d ≡ wording (recordOf (laidBy p d)) FilePath
-    unfolding bytesOf fixedText wording there orPlaceholder
-    path-absent = ap (λ (x : Given). orPlaceholder (bytes "<file>") (there some x)) file-absent
+    unfolding bytesOf wording there orPlaceholder
+    path-absent = ap (λ (x : Given). orPlaceholder noFile (there some x)) file-absent
 
     pub name-absent : (n : ℕ) → bytesOf (Wording.Fixed Fixed.File) d ≡ wording (recordOf (laidBy p d)) (FileName n)
-    unfolding bytesOf fixedText wording there orPlaceholder
-    name-absent n = ap (λ (x : Given). orPlaceholder (bytes "<file>") (there (fileName n) x)) file-absent
+    unfolding bytesOf wording there orPlaceholder
+    name-absent n = ap (λ (x : Given). orPlaceholder noFile (there (fileName n) x)) file-absent
 
   -- ---- the module
 
@@ -66,11 +66,11 @@ module _ (p : Places) (d : List ℕ) where
 
     pub module-there : bytesOf (Wording.Part (p .«module_from») (p .«module_to»)) d ≡ wording (recordOf (laidBy p d)) ModulePath
     unfolding bytesOf wording there orPlaceholder
-    module-there = ap (λ (x : Given). orPlaceholder (bytes "<mod path>") (there some x)) given-there
+    module-there = ap (λ (x : Given). orPlaceholder noModule (there some x)) given-there
 
-    pub crate-there : orPlaceholder (bytes "<crate>") (beforeColons (part (p .«module_from») (p .«module_to») d)) ≡ wording (recordOf (laidBy p d)) CrateName
+    pub crate-there : orPlaceholder noCrate (beforeColons (part (p .«module_from») (p .«module_to») d)) ≡ wording (recordOf (laidBy p d)) CrateName
     unfolding wording there
-    crate-there = ap (λ (x : Given). orPlaceholder (bytes "<crate>") (there beforeColons x)) given-there
+    crate-there = ap (λ (x : Given). orPlaceholder noCrate (there beforeColons x)) given-there
 
   module _ (h : eqb (p .mask / 4 % 2) 1 ≡ false) where
     given-absent : absent ≡ recordOf (laidBy p d) .modulePath
@@ -78,34 +78,34 @@ module _ (p : Places) (d : List ℕ) where
     given-absent = ap (λ (b : Bool). givenIf b (part (p .«module_from») (p .«module_to») d)) (sym h)
 
     pub module-absent : bytesOf (Wording.Fixed Fixed.ModulePath) d ≡ wording (recordOf (laidBy p d)) ModulePath
-    unfolding bytesOf fixedText wording there orPlaceholder
-    module-absent = ap (λ (x : Given). orPlaceholder (bytes "<mod path>") (there some x)) given-absent
+    unfolding bytesOf wording there orPlaceholder
+    module-absent = ap (λ (x : Given). orPlaceholder noModule (there some x)) given-absent
 
     pub crate-absent : bytesOf (Wording.Fixed Fixed.Crate) d ≡ wording (recordOf (laidBy p d)) CrateName
-    unfolding bytesOf fixedText wording there orPlaceholder
-    crate-absent = ap (λ (x : Given). orPlaceholder (bytes "<crate>") (there beforeColons x)) given-absent
+    unfolding bytesOf wording there orPlaceholder
+    crate-absent = ap (λ (x : Given). orPlaceholder noCrate (there beforeColons x)) given-absent
 
   -- ---- the timestamp
 
   pub time-host : sourceOf (p .source) ≡ Source.Host → bytesOf (Wording.Fixed Fixed.Time) d ≡ wording (recordOf (laidBy p d)) Timestamp
-  unfolding bytesOf fixedText wording recordOf laidBy timeOf orPlaceholder
-  time-host e = ap (λ (s : Source). orPlaceholder (bytes "<time>") (timeOf s (part (p .«timestamp_from») (p .«timestamp_to») d))) (sym e)
+  unfolding bytesOf wording recordOf laidBy timeOf orPlaceholder
+  time-host e = ap (λ (s : Source). orPlaceholder noTime (timeOf s (part (p .«timestamp_from») (p .«timestamp_to») d))) (sym e)
 
   module _ (e : sourceOf (p .source) ≡ Source.Defmt) where
-    time-of : orPlaceholder (bytes "<time>") (notEmpty (part (p .«timestamp_from») (p .«timestamp_to») d)) ≡ wording (recordOf (laidBy p d)) Timestamp
+    time-of : orPlaceholder noTime (notEmpty (part (p .«timestamp_from») (p .«timestamp_to») d)) ≡ wording (recordOf (laidBy p d)) Timestamp
     unfolding wording recordOf laidBy timeOf
-    time-of = ap (λ (s : Source). orPlaceholder (bytes "<time>") (timeOf s (part (p .«timestamp_from») (p .«timestamp_to») d))) (sym e)
+    time-of = ap (λ (s : Source). orPlaceholder noTime (timeOf s (part (p .«timestamp_from») (p .«timestamp_to») d))) (sym e)
 
     pub time-there : p .«timestamp_from» < p .«timestamp_to» → p .«timestamp_to» ≤ length d
         → bytesOf (Wording.Part (p .«timestamp_from») (p .«timestamp_to»)) d ≡ wording (recordOf (laidBy p d)) Timestamp
     unfolding bytesOf orPlaceholder
     time-there h g =
-        ap (orPlaceholder (bytes "<time>")) (sym (not-empty _ _ _ (part-step d (p .«timestamp_from») (p .«timestamp_to») h g))) ∙ time-of
+        ap (orPlaceholder noTime) (sym (not-empty _ _ _ (part-step d (p .«timestamp_from») (p .«timestamp_to») h g))) ∙ time-of
 
     pub time-empty : p .«timestamp_to» ≤ p .«timestamp_from» → bytesOf (Wording.Fixed Fixed.Time) d ≡ wording (recordOf (laidBy p d)) Timestamp
-    unfolding bytesOf fixedText orPlaceholder notEmpty
+    unfolding bytesOf orPlaceholder notEmpty
     time-empty h =
-        ap (λ (s : List ℕ). orPlaceholder (bytes "<time>") (notEmpty s)) (sym (part-none d (p .«timestamp_from») (p .«timestamp_to») h)) ∙ time-of
+        ap (λ (s : List ℕ). orPlaceholder noTime (notEmpty s)) (sym (part-none d (p .«timestamp_from») (p .«timestamp_to») h)) ∙ time-of
 
   -- ---- the others
 

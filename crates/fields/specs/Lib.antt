@@ -1,8 +1,5 @@
-pub mod Levels
-pub mod Paths
 pub mod Texts
-pub mod Formats
 pub mod Lines
 pub mod Wordings
-pub mod Remaining
 pub mod Worded
+pub mod Computing

@@ -1,7 +1,7 @@
 -- A template's segments and a record give what is shown, and that gives the line (document 01, "Building a line"). Assumes nothing.
 use Prim.Native.Nat.{ℕ}
 use mathlib.Core.List.{List, [], _∷_}
-use Rattle.text.specs.Bytes.{part}
+use Rattle.buffer.specs.Bytes.{part}
 use Rattle.words.specs.declared.LogMetadata.{LogMetadata}
 use Rattle.words.specs.declared.LogMetadata.the-variants.{CrateName, FileName, FilePath, LineNumber, Log, LogLevel, ModulePath, Timestamp}
 use Rattle.words.specs.declared.LogFormat.{LogFormat}
@@ -15,7 +15,7 @@ use Rattle.record.specs.declared.Level.{Level}
 use Rattle.record.specs.declared.Level.the-variants.{Print, Error, Warn, Info, Debug, Trace}
 use Rattle.record.specs.Records.{Record}
 use Rattle.fields.specs.Texts.{wording}
-use Rattle.fields.specs.Formats.{specifierFormat, groupFormat}
+use Rattle.formats.specs.Formats.{specifierFormat, groupFormat}
 
 -- a specifier's text in its format
 unfoldable pub inFormat : Record → LogMetadata → LogFormat → Shown
@@ -26,6 +26,7 @@ unfoldable pub messageFrom : Source → Record → LogFormat → Shown
 messageFrom Defmt r f = inFormat r Log f
 messageFrom Host r f = shown.text (r .message)
 
+-- what a specifier shows: a text in its format, but for a host's message
 unfoldable pub specifierShown : Record → LogMetadata → LogFormat → Shown
 specifierShown r CrateName f = inFormat r CrateName f
 specifierShown r (FileName n) f = inFormat r (FileName n) f

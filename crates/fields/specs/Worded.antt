@@ -1,20 +1,18 @@
--- What a wording promises of the record that places describe. Assumes nothing.
-use mathlib.Core.Path.{_≡_}
+-- Scaffolding, for proofs alone: what a wording promises of the record that places describe. Assumes nothing.
 use mathlib.Core.List.{List}
 use Prim.Native.Nat.{ℕ}
 use lib.ListN.{length}
 use Rattle.words.specs.declared.LogMetadata.{LogMetadata}
 use Rattle.record.specs.declared.Places.{Places}
-use Rattle.record.specs.Layout.{laidBy}
-use Rattle.record.specs.Checks.{recordOf}
-use Rattle.record.specs.Told.{PlacesWithin}
+use Rattle.record.specs.Placed.{laidBy, PlacesWithin}
+use Rattle.record.specs.Contents.{recordOf}
 use Rattle.fields.specs.declared.Wording.{Wording}
 use Rattle.fields.specs.Texts.{wording}
-use Rattle.fields.specs.Wordings.{bytesOf, WordingWithin}
+use Rattle.fields.specs.Wordings.{Tells}
 
 -- the wording w of the specifier m, where the record's bytes are d
 abbrev pub Worded : Places → LogMetadata → Wording → List ℕ → Type 0
-Worded p m w d = (bytesOf w d ≡ wording (recordOf (laidBy p d)) m) × WordingWithin (length d) w
+Worded p m w d = Tells w d (wording (recordOf (laidBy p d)) m)
 
 -- the same in any bytes that the places lie in
 abbrev pub WordedAnywhere : Places → LogMetadata → Wording → Type 0

@@ -1,8 +1,24 @@
 // What each specifier shows of a record.
-pub mod formats;
-pub mod levels;
-pub mod paths;
-pub mod wordings;
+use record::Level;
+use record::Places;
+use record::Source;
+use record::levels::level_of;
+use record::levels::source_of;
+use record::marks::has_file;
+use record::marks::has_module;
+use words::LogMetadata;
+ghost use mathlib.Core.Path.{_≡_};
+ghost use mathlib.Core.List.{[], _∷_};
+ghost use Prim.Native.Nat.{_+_, _<_, _≤_};
+ghost use lib.ListN.{length, getD};
+ghost use Rattle.buffer.specs.Bytes.{bytes, part, same};
+ghost use Rattle.record.specs.Placed.{laidBy, PlacesWithin};
+ghost use Rattle.record.specs.Contents.{recordOf};
+ghost use Rattle.paths.specs.Paths.{beforeColons};
+ghost use Rattle.fields.specs.Texts.{noCrate, orPlaceholder, wording};
+ghost use Rattle.formats.specs.Levels.{nameOf};
+ghost use Rattle.fields.specs.Wordings.{fixedText, Tells};
+ghost use Rattle.fields.specs.Worded.{Worded, WordedAnywhere};
 
 // A text that doesn't come from the record: placeholders and the names of levels.
 pub enum Fixed {
@@ -24,4 +40,113 @@ pub enum Wording {
     Fixed(Fixed),
     Number(usize),
     Components(usize, usize, usize),
+}
+
+// The wording of the specifier m, for the record with the places p in the bytes d.
+pub fn wording_of(d: &[u8], p: Places, m: LogMetadata) -> Wording
+    requires { ⌜ PlacesWithin (length (now d)) p ⌝ }
+    ensures { λ r. ⌜ Tells r (now (d .entry)) (wording (recordOf (laidBy p (now (d .entry)))) m) ⌝ }
+{
+    match m {
+        LogMetadata::CrateName => build_crate_name(d, p),
+        LogMetadata::FileName(n) => build_file_name(p, n as usize),
+        LogMetadata::FilePath => build_file_path(p),
+        LogMetadata::LineNumber => Wording::Number(p.line),
+        LogMetadata::Log => Wording::Part(p.message_from, p.message_to),
+        LogMetadata::LogLevel => Wording::Fixed(build_log_level(level_of(p.level))),
+        LogMetadata::ModulePath => build_module_path(p),
+        LogMetadata::Timestamp => build_timestamp(p),
+    }
+}
+
+// "ERROR, WARN, INFO, DEBUG, TRACE"; a print has no name.
+fn build_log_level(l: Level) -> Fixed
+    ensures { λ r. ⌜ fixedText r ≡ nameOf l ⌝ }
+{
+    match l {
+        Level::Print => Fixed::Empty,
+        Level::Error => Fixed::Error,
+        Level::Warn => Fixed::Warn,
+        Level::Info => Fixed::Info,
+        Level::Debug => Fixed::Debug,
+        Level::Trace => Fixed::Trace,
+    }
+}
+
+// "an empty timestamp or a host record gives `<time>`"
+fn build_timestamp(p: Places) -> Wording
+    ensures { λ r. ⌜ WordedAnywhere p LogMetadata.Timestamp r ⌝ }
+{
+    let source = source_of(p.source);
+    let Source::Defmt = source else {
+        return Wording::Fixed(Fixed::Time);
+    };
+    if p.timestamp_from < p.timestamp_to {
+        return Wording::Part(p.timestamp_from, p.timestamp_to);
+    }
+    Wording::Fixed(Fixed::Time)
+}
+
+fn build_file_path(p: Places) -> Wording
+    ensures { λ r. ⌜ WordedAnywhere p LogMetadata.FilePath r ⌝ }
+{
+    if has_file(p.mask) {
+        return Wording::Part(p.file_from, p.file_to);
+    }
+    Wording::Fixed(Fixed::File)
+}
+
+// The components are looked for when they are shown: most templates name no `{f}`.
+fn build_file_name(p: Places, n: usize) -> Wording
+    ensures { λ r. ⌜ WordedAnywhere p (LogMetadata.FileName n) r ⌝ }
+{
+    if has_file(p.mask) {
+        return Wording::Components(p.file_from, p.file_to, n);
+    }
+    Wording::Fixed(Fixed::File)
+}
+
+fn build_module_path(p: Places) -> Wording
+    ensures { λ r. ⌜ WordedAnywhere p LogMetadata.ModulePath r ⌝ }
+{
+    if has_module(p.mask) {
+        return Wording::Part(p.module_from, p.module_to);
+    }
+    Wording::Fixed(Fixed::ModulePath)
+}
+
+fn build_crate_name(d: &[u8], p: Places) -> Wording
+    requires { ⌜ PlacesWithin (length (now d)) p ⌝ }
+    ensures { λ r. ⌜ Worded p LogMetadata.CrateName r (now (d .entry)) ⌝ }
+{
+    if has_module(p.mask) {
+        return before_colons(d, p.module_from, p.module_to);
+    }
+    Wording::Fixed(Fixed::Crate)
+}
+
+// "the module before the first `::`, or `<crate>` without one"
+fn before_colons(d: &[u8], from: usize, to: usize) -> Wording
+    requires { ⌜ (from ≤ to) × (to ≤ length (now d)) ⌝ }
+    ensures { λ r. ⌜ Tells r (now (d .entry)) (orPlaceholder noCrate (beforeColons (part from to (now (d .entry))))) ⌝ }
+{
+    let mut i = from;
+    while i + 1 < to {
+        if are_colons(d, i) {
+            return Wording::Part(from, i);
+        }
+        i += 1;
+    }
+    Wording::Fixed(Fixed::Crate)
+}
+
+// Whether `::` stands at the place i.
+fn are_colons(d: &[u8], i: usize) -> bool
+    requires { ⌜ i + 1 < length (now d) ⌝ }
+    ensures { λ r. ⌜ r ≡ same (bytes "::") (getD (now (d .entry)) i 0 ∷ getD (now (d .entry)) (i + 1) 0 ∷ []) ⌝ }
+{
+    if d[i] == b':' {
+        return d[i + 1] == b':';
+    }
+    false
 }

@@ -6,7 +6,7 @@ use mathlib.Core.List.{List}
 use native.Mathlib.Omega.{arith}
 use native.Mathlib.Nat.{add-mul, one-mul, mul-le-mul-right, mul-assoc, mul-comm}
 use lib.ListN.{length, drop, length-append, length-take, length-drop}
-use Rattle.text.specs.Bytes.{part}
+use Rattle.buffer.specs.Bytes.{part}
 use Rattle.words.specs.declared.LogMetadata.{LogMetadata}
 use Rattle.words.specs.declared.LogMetadata.the-variants.{CrateName, FileName, FilePath, LineNumber, Log, LogLevel, ModulePath, Timestamp}
 use Rattle.words.specs.declared.LogFormat.{LogFormat}
@@ -19,15 +19,15 @@ use Rattle.segments.specs.Sizes.{size, sizes, Narrow, Low, Lows}
 use Rattle.segments.specs.Pool.{segmentAt, chainAt}
 use Rattle.record.specs.declared.Level.{Level}
 use Rattle.record.specs.Records.{Record}
-use Rattle.record.specs.Layout.{laidBy}
+use Rattle.record.specs.Placed.{laidBy}
 use Rattle.fields.specs.Texts.{wording}
-use Rattle.fields.specs.Formats.{defaultWidth, widthFor, formatFor, specifierFormat, groupFormat}
+use Rattle.formats.specs.Formats.{defaultWidth, widthFor, formatFor, specifierFormat, groupFormat}
 use Rattle.fields.specs.Lines.{segmentShown, segmentsShown}
-use Rattle.line.specs.Places.{placesOf, recordBy}
-use Rattle.line.specs.Texts.{segmentText, segmentsText, rawText, isBare, formatOf}
-use Rattle.line.specs.Rows.{Countable, Writable}
-use Rattle.line.proofs.Segments.{segment-bare, segment-formatted}
-use Rattle.line.proofs.Wordings.{wording-short}
+use Rattle.leaves.specs.Places.{placesOf, recordBy}
+use Rattle.rows.specs.Texts.{segmentText, segmentsText, rawText, isBare, formatOf}
+use Rattle.rows.specs.Rows.{Countable, Writable}
+use Rattle.rows.proofs.Segments.{segment-bare, segment-formatted}
+use Rattle.leaves.proofs.Wordings.{wording-short}
 
 -- more than the longest text of a segment that holds no other, and sixteen times that for each level of groups
 abbrev scale : ℕ → ℕ
@@ -39,12 +39,10 @@ scale-least zero = omega arith
 scale-least (suc d) = omega (arith, scale-least d)
 
 width-narrow : (default : ℕ) (w : Width) → default ≤ 512 → Narrow w → widthFor default w ≤ 512
-unfolding widthFor
 width-narrow default Width.Default h g = h
 width-narrow default (Width.Given n) h g = g
 
 default-narrow : (m : LogMetadata) → defaultWidth m ≤ 512
-unfolding defaultWidth
 default-narrow CrateName = omega arith
 default-narrow (FileName n) = omega arith
 default-narrow FilePath = omega arith
@@ -55,11 +53,11 @@ default-narrow ModulePath = omega arith
 default-narrow Timestamp = omega arith
 
 specifier-narrow : (l : Level) (m : LogMetadata) (f : LogFormat) → Narrow (f .width) → specifierFormat l m f .width ≤ 512
-unfolding specifierFormat formatFor
+unfolding formatFor
 specifier-narrow l m f h = width-narrow (defaultWidth m) (f .width) (default-narrow m) h
 
 group-narrow : (l : Level) (f : LogFormat) → Narrow (f .width) → groupFormat l f .width ≤ 512
-unfolding groupFormat formatFor
+unfolding formatFor
 group-narrow l f h = width-narrow 0 (f .width) (omega arith) h
 
 part-small : (i j : ℕ) (t : List ℕ) → length (part i j t) ≤ length t

@@ -1,10 +1,2 @@
 pub mod Bound
-pub mod Cutting
-pub mod Formats
-pub mod Framing
-pub mod Lengths
-pub mod Linking
 pub mod Placing
-pub mod Segments
-pub mod Tables
-pub mod Wordings

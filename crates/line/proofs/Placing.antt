@@ -6,20 +6,19 @@ use mathlib.Core.List.{List, [], _∷_, _++_, append-assoc}
 use native.Mathlib.Omega.{arith}
 use borrow.Author.Tests.{le-leb, lt-leb}
 use lib.ListN.{length, replicate, length-append, length-replicate}
-use Rattle.text.specs.Bytes.{part}
-use Rattle.text.specs.Buffer.{putAt}
-use Rattle.text.proofs.Writing.{join, part-put, put-over}
+use Rattle.buffer.specs.Bytes.{part}
+use Rattle.buffer.specs.Buffer.{putAt, written}
+use Rattle.buffer.proofs.Writing.{join, part-put, put-over}
 use Rattle.colour.specs.declared.Settings.{Settings}
 use Rattle.colour.specs.declared.Look.{Look}
 use Rattle.colour.specs.Sequences.{reset, reinserted}
 use Rattle.colour.specs.Looks.{prefix}
-use Rattle.colour.specs.Formatting.{prefixIn, inserted, padded, before, padByte, ending, laid}
+use Rattle.colour.specs.Formatting.{prefixIn, inserted, padded, before, padByte, ending, framed}
 use Rattle.colour.proofs.Formatted.{laid-plain, ending-reset}
 use Rattle.colour.proofs.Measures.{length-reinserted}
-use Rattle.line.specs.declared.Frame.{Frame}
-use Rattle.line.specs.Rows.{written}
-use Rattle.line.proofs.Cutting.{empty}
-use Rattle.line.proofs.Framing.{opening, Framed, framed-length}
+use Rattle.rows.specs.declared.Frame.{Frame}
+use Rattle.leaves.proofs.Cutting.{empty}
+use Rattle.rows.proofs.Framing.{opening, Framed, framed-length}
 
 -- where there is a prefix colour is on
 pub prefix-on : (on : Bool) (k : Look) → (length (prefixIn on k) ≡ 0 → ⊥) → prefixIn on k ≡ prefix k
@@ -62,7 +61,7 @@ module _ (s : Settings) (w : Frame) (x y : List ℕ) (h : Framed s w x y) where
       let la : length (l ++ x) ≡ length l + length x = length-append l x in
       let fl = framed-length s w x y h in
       let yl : y ≡ l ++ (x ++ r) =
-      h .text ∙ ap (λ (q : List ℕ). laid q f n x) (empty (opening s f) p0) ∙ laid-plain f n x
+      h .text ∙ ap (λ (q : List ℕ). framed q f n x) (empty (opening s f) p0) ∙ laid-plain f n x
       ∙ ap (λ (k : ℕ). replicate k (padByte (f .padding)) ++ (x ++ replicate (n - before (f .alignment) n) (padByte (f .padding)))) (sym (h .left))
       ∙ ap (λ (k : ℕ). replicate (w .left) (padByte (f .padding)) ++ (x ++ replicate k (padByte (f .padding)))) (sym (h .right))
       ∙ ap (λ (k : ℕ). replicate (w .left) k ++ (x ++ replicate (w .right) k)) (sym ze) in
@@ -73,7 +72,7 @@ module _ (s : Settings) (w : Frame) (x y : List ℕ) (h : Framed s w x y) where
   -- what dressing puts around the text
   pub dressed-text : (length (opening s (w .format)) ≡ 0 → ⊥)
       → prefix (w .format .look) ++ (replicate (w .left) (padByte (w .format .padding)) ++ (reinserted (prefix (w .format .look)) x ++ (replicate (w .right) (padByte (w .format .padding)) ++ reset))) ≡ y
-  unfolding laid
+  unfolding framed
   dressed-text p1 =
       let f = w .format in
       let n = padded s f x in

@@ -5,8 +5,8 @@ use Prim.Native.Nat.{ℕ, _+_}
 use native.Mathlib.Nat.{add-zero}
 use native.Mathlib.Omega.{arith}
 use lib.ListN.{length, replicate, length-replicate}
-use Rattle.text.specs.Utf8.{within}
-use Rattle.text.specs.Characters.{begins, chars}
+use Rattle.utf8.specs.Utf8.{within}
+use Rattle.characters.specs.Characters.{begins, chars}
 use Rattle.words.specs.declared.Padding.{Padding}
 use Rattle.colour.specs.declared.Scan.{Scan}
 use Rattle.colour.specs.declared.Settings.{Settings}

@@ -6,15 +6,15 @@ use native.Mathlib.Nat.{add-zero}
 use native.Mathlib.Omega.{arith}
 use native.Mathlib.Decide.{decLt}
 use lib.ListN.{length, length-append}
-use Rattle.text.specs.Characters.{begins, chars}
-use Rattle.text.proofs.Counting.{begins-below, chars-append, chars-length}
+use Rattle.characters.specs.Characters.{begins, chars}
+use Rattle.characters.proofs.Counting.{begins-below, chars-append, chars-length}
 use Rattle.colour.specs.declared.State.{State}
 use Rattle.colour.specs.declared.Act.{Act}
 use Rattle.colour.specs.declared.Act.the-variants.{Text}
 use Rattle.colour.specs.declared.Scan.{Scan}
 use Rattle.colour.specs.Machine.{actOf, moved, scan}
 use Rattle.colour.proofs.Acts.{act-high}
-use Rattle.colour.proofs.Scanning.{scan-append, sequences-grow, sequences-small, resets-small}
+use Rattle.colour.proofs.Scanning.{scan-append, sequences-grow, resets-small}
 use Rattle.measure.specs.declared.Measure.{Measure}
 use Rattle.measure.specs.Measures.{nothing, grown, more, Small}
 
@@ -58,11 +58,10 @@ seen-small [] t = omega arith
 seen-small (b ∷ s) t = omega (arith, seen-small s (moved (actOf (t .state) b) t), seen-grows (t .state) b t)
 
 pub small-nothing : Small nothing
-small-nothing = record { held = omega arith; resets = omega arith; count = omega arith; seen = omega arith }
+small-nothing = record { resets = omega arith; count = omega arith; seen = omega arith }
 
 pub small-grown : (a : Measure) (s : List ℕ) → Small a → Small (grown a s)
 small-grown a s h = record {
-  held = omega (arith, sequences-small s (a .scan), h .held);
   resets = omega (arith, resets-small s (a .scan), h .resets);
   count = omega (arith, chars-length s, h .count);
   seen = omega (arith, seen-small s (a .scan), h .seen);
@@ -70,7 +69,6 @@ small-grown a s h = record {
 
 pub small-more : (a : Measure) (n : ℕ) → Small a → Small (more a n)
 small-more a n h = record {
-  held = omega (arith, h .held);
   resets = omega (arith, h .resets);
   count = omega (arith, h .count);
   seen = omega (arith, h .seen);

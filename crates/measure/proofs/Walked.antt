@@ -4,12 +4,12 @@ use mathlib.Core.List.{List, _++_}
 use Prim.Native.Nat.{ℕ, _+_, _-_}
 use native.Mathlib.Omega.{arith}
 use lib.ListN.{length, replicate, length-append}
-use Rattle.text.specs.Characters.{chars}
-use Rattle.text.proofs.Counting.{chars-append}
+use Rattle.characters.specs.Characters.{chars}
+use Rattle.characters.proofs.Counting.{chars-append}
 use Rattle.colour.specs.declared.Settings.{Settings}
 use Rattle.colour.specs.declared.Format.{Format}
 use Rattle.colour.specs.Sequences.{visible, reinserted}
-use Rattle.colour.specs.Formatting.{count, due, prefixIn, inserted, counted, padded, before, padByte, ending, laid}
+use Rattle.colour.specs.Formatting.{count, due, prefixIn, inserted, counted, padded, before, padByte, ending, framed}
 use Rattle.colour.specs.Machine.{scan, start}
 use Rattle.colour.proofs.Inserting.{bump}
 use Rattle.colour.proofs.Prefixes.{chars-prefixIn, whole-or-none-prefixIn}
@@ -23,8 +23,8 @@ pub walked : (s : Settings) (f : Format) (a : Measure) (t : List ℕ) (n : ℕ)
     → grown (more (grown (grown a (prefixIn (s .colour) (f .look) ++ replicate (before (f .alignment) n) (padByte (f .padding)))) t)
     (inserted (prefixIn (s .colour) (f .look)) t))
     (replicate (n - before (f .alignment) n) (padByte (f .padding)) ++ ending (prefixIn (s .colour) (f .look)))
-    ≡ grown a (laid (prefixIn (s .colour) (f .look)) f n t)
-unfolding laid
+    ≡ grown a (framed (prefixIn (s .colour) (f .look)) f n t)
+unfolding framed
 walked s f a t n =
     let p = prefixIn (s .colour) (f .look) in
     let l = replicate (before (f .alignment) n) (padByte (f .padding)) in

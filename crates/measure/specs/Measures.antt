@@ -1,8 +1,8 @@
--- What measuring a text gives: all that is known of it without its bytes. Assumes nothing.
+-- Scaffolding, for proofs alone: what measuring a text gives: all that is known of it without its bytes. Assumes nothing.
 use Prim.Native.Nat.{ℕ, _+_, _-_, _*_, _≤_}
 use mathlib.Core.List.{List}
 use lib.ListN.{length}
-use Rattle.text.specs.Characters.{chars}
+use Rattle.characters.specs.Characters.{chars}
 use Rattle.colour.specs.declared.Settings.{Settings}
 use Rattle.colour.specs.declared.Format.{Format}
 use Rattle.colour.specs.Formatting.{prefixIn, counted}
@@ -27,7 +27,6 @@ more a n = record {
 
 -- no number of a measure is larger than its bytes
 pub record Small (a : Measure) : Type 0 where
-  pub held : a .scan .sequences + a .scan .held ≤ a .len
   pub resets : a .scan .resets ≤ a .len
   pub count : a .chars ≤ a .len
   pub seen : a .scan .sequences + a .scan .held ≤ a .chars

@@ -1,8 +1,8 @@
 // What a format adds to a text, known from the measure of the text.
 use super::Measure;
-use super::prefix::prefix_len;
 use colour::Format;
 use colour::Settings;
+use prefix::length::prefix_len;
 ghost use mathlib.Core.Path.{_≡_};
 ghost use mathlib.Core.Bool.{cond};
 ghost use Prim.Native.Nat.{_-_, _<_, _^_};

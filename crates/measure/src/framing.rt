@@ -1,11 +1,11 @@
 // What stands before a formatted text and after it, measured.
 use super::Measure;
 use super::padding::pad;
-use super::prefix::prefix_len;
 use colour::Format;
 use colour::Scan;
 use colour::Settings;
 use colour::State;
+use prefix::length::prefix_len;
 ghost use mathlib.Core.Path.{_≡_};
 ghost use mathlib.Core.List.{_++_};
 ghost use Prim.Native.Nat.{_+_, _<_, _≤_, _^_};

@@ -1,8 +1,8 @@
 // A measure, and a text more.
 use super::Measure;
-use super::skipping::scan_text;
 use colour::Scan;
 use colour::State;
+use scanning::skipping::scan_text;
 ghost use mathlib.Core.Path.{_≡_};
 ghost use Prim.Native.Nat.{_+_, _<_, _^_};
 ghost use lib.ListN.{length};
@@ -31,7 +31,7 @@ pub fn add(a: Measure, s: &[u8]) -> Measure
 {
     let t = a.scan;
     let u = scan_text(t, s);
-    let n = text::characters::count_chars(s);
+    let n = characters::count_chars(s);
     Measure {
         scan: u,
         chars: a.chars + n,

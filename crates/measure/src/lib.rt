@@ -5,9 +5,6 @@ pub mod additions;
 pub mod framing;
 pub mod growing;
 pub mod padding;
-pub mod prefix;
-pub mod scan;
-mod skipping;
 
 // A text as measured: the search for colour sequences after it, its characters, its bytes.
 pub struct Measure {

@@ -1,8 +1,8 @@
 // Padding: its byte, where it stands, and what it adds to a measure.
 use super::Measure;
-use super::scan::step;
-use super::skipping::rests;
 use colour::Scan;
+use scanning::skipping::rests;
+use scanning::step;
 use words::Alignment;
 use words::Padding;
 ghost use mathlib.Core.Path.{_≡_};
@@ -33,7 +33,7 @@ pub fn before_text(a: Alignment, n: usize) -> usize
 }
 
 // The measure of what a measures, then n bytes of padding.
-pub(crate) fn pad(a: Measure, z: Padding, n: usize) -> Measure
+pub fn pad(a: Measure, z: Padding, n: usize) -> Measure
     requires { ⌜ (Small a) × (a .len + n < 2 ^ 58) ⌝ }
     ensures { λ r. ⌜ r ≡ grown a (replicate n (padByte z)) ⌝ }
 {

@@ -1,13 +1,13 @@
 // A session sheet on standard input, its lines on standard output.
 use libc::STDIN_FILENO;
 use libc::STDOUT_FILENO;
+use outcomes::refusing::put_refusal;
 use refusals::Refusal;
 use session::Opened;
 use session::opening::open_sheet;
 use session::records::record_text;
-use session::refusing::put_refusal;
-use sheet::body_count;
-use sheet::body_length;
+use session::walking::first_record;
+use session::walking::next_record;
 ghost use Rattle.session.specs.Walking.{Ready, Lies};
 
 fn main() {
@@ -35,15 +35,10 @@ fn write_refusal(r: Refusal) {
 fn write_records(d: &[u8], cells: &[usize], n: usize)
     requires { ⌜ Ready (now d) (now cells) n ⌝ }
 {
-    let count = body_count(d);
-    let mut left = count - 1;
-    let mut i = 6;
-    let mut j = 2 + 4 * count + body_length(d, 2);
+    let mut w = first_record(d);
     // nothing is left to do once the output takes no more
-    while 0 < left && write_record(d, cells, n, i, j) {
-        j += body_length(d, i);
-        i += 4;
-        left -= 1;
+    while 0 < w.left && write_record(d, cells, n, w.i, w.j) {
+        w = next_record(d, w);
     }
 }
 

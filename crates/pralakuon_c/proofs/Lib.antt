@@ -1,2 +1,2 @@
-pub mod Choosing
 pub mod Sessions
+pub mod Written

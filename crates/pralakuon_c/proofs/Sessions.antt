@@ -5,17 +5,18 @@ use mathlib.Core.Bool.{Bool, true, false}
 use mathlib.Core.List.{List, [], _∷_}
 use native.Mathlib.Omega.{arith}
 use lib.ListN.{length, length-append}
-use Rattle.text.specs.Table.{Maybe, none, some}
+use Rattle.buffer.specs.Table.{Maybe, none, some}
 use Rattle.refusals.specs.declared.Refusal.{Refusal}
 use Rattle.segments.specs.Segments.{LogSegments}
 use Rattle.template.specs.Template.{Template, read, refusal, readTemplate}
 use Rattle.record.specs.Layout.{Laid, u32}
-use Rattle.answer.specs.Answers.{recordOutcome, settingsOf}
+use Rattle.answer.specs.Answers.{recordOutcome}
+use Rattle.settings.specs.Bits.{settingsOf}
 use Rattle.sheet.specs.Sheets.{bodyCount, contentsEnd, bodiesFrom, bodies, isSheet, Sheet, allLaidOut, headed, held, sheetOf}
-use Rattle.session.specs.Program.{outcomeLine, lineRoom, recordLines, sheetLines, maybeSheetLines, output}
-use Rattle.session.proofs.Answered.{outcome-most}
+use Rattle.outcomes.specs.Program.{outcomeLine, lineRoom, recordLines, sheetLines, maybeSheetLines, output}
+use Rattle.outcomes.proofs.Answered.{outcome-most}
 use Rattle.session.proofs.Places.{headed-at}
-use Rattle.session.proofs.Refusals.{refusal-most}
+use Rattle.outcomes.proofs.Refusals.{refusal-most}
 
 -- each record has a line of 65,537 bytes at most
 lines-most : (h : Sheet) (s : LogSegments) (x : List Laid) → length (recordLines h s x) ≤ 65537 * length x

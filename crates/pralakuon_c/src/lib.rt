@@ -1,24 +1,23 @@
 // What the tablet's host calls: every entry takes numbers and lent bytes, and none asks anything of them.
-use answer::answer_in;
-use answer::packing::pack;
-use answer::templates::check_template;
-use answer::templates::names_timestamp;
-use builtin::Style;
-use builtin::put_builtin;
+use builtin::put_chosen;
+use checking::check_template;
+use checking::names_timestamp;
+use packing::answer_in;
+use packing::pack;
 use session::session;
 ghost use mathlib.Core.Path.{_≡_};
 ghost use lib.ListN.{length};
 ghost use Rattle.template.specs.Template.{readTemplate};
-ghost use Rattle.answer.specs.Answers.{callOutcome, inRoom, bufferAfter, packed};
-ghost use Rattle.answer.specs.Templates.{checkOf, timestampOf};
-ghost use Rattle.session.specs.Program.{output};
-ghost use Rattle.pralakuon_c.specs.Choices.{styleOf, isYes, chosen};
+ghost use Rattle.answer.specs.Answers.{inRoom, bufferAfter, packed, lineEntry};
+ghost use Rattle.checking.specs.Templates.{checkOf, timestampOf};
+ghost use Rattle.outcomes.specs.Program.{output};
+ghost use Rattle.builtin.specs.Choices.{chosen};
 
 // The line of the record d by the template t.
 #[no_mangle]
 pub extern "C" fn pralakuon_line(t: &[u8], settings: u8, d: &[u8], out: &mut [u8]) -> u64
-    ensures answer { λ r. ⌜ r ≡ packed (callOutcome settings (now (t .entry)) (now (d .entry)) (length (now (out .entry)))) ⌝ }
-    ensures buffer { λ r. ⌜ now (out .exit) ≡ bufferAfter (now (out .entry)) (callOutcome settings (now (t .entry)) (now (d .entry)) (length (now (out .entry)))) ⌝ }
+    ensures answer { λ r. ⌜ r ≡ packed (lineEntry (now (t .entry)) settings (now (d .entry)) (now (out .entry))) ⌝ }
+    ensures buffer { λ r. ⌜ now (out .exit) ≡ bufferAfter (now (out .entry)) (lineEntry (now (t .entry)) settings (now (d .entry)) (now (out .entry))) ⌝ }
 {
     pack(answer::line(t, settings, d, out))
 }
@@ -48,21 +47,6 @@ pub extern "C" fn pralakuon_timestamp(t: &[u8]) -> u64
     names_timestamp(t)
 }
 
-fn style_of(n: u8) -> Style
-    ensures { λ r. ⌜ r ≡ styleOf n ⌝ }
-{
-    if n == 0 {
-        return Style::Default;
-    }
-    Style::OneLine
-}
-
-fn is_yes(n: u8) -> bool
-    ensures { λ r. ⌜ r ≡ isYes n ⌝ }
-{
-    n != 0
-}
-
 // A built-in template.
 #[no_mangle]
 pub extern "C" fn pralakuon_builtin(
@@ -76,12 +60,6 @@ pub extern "C" fn pralakuon_builtin(
     ensures buffer { λ r. ⌜ now (out .exit) ≡ bufferAfter (now (out .entry)) (inRoom (length (now (out .entry))) (chosen style location timestamp host)) ⌝ }
 {
     let room = out.len();
-    let n = put_builtin(
-        style_of(style),
-        is_yes(location),
-        is_yes(timestamp),
-        is_yes(host),
-        out,
-    );
+    let n = put_chosen(style, location, timestamp, host, out);
     pack(answer_in(room, n))
 }

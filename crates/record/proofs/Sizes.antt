@@ -7,9 +7,10 @@ use native.Mathlib.Omega.{arith}
 use lib.Dec.{eqb, leb}
 use lib.ListN.{length, getD}
 use borrow.Author.Tests.{leb-true, eqb-true, le-leb, lt-leb}
-use Rattle.text.specs.Bytes.{part}
+use Rattle.buffer.specs.Bytes.{part}
 use Rattle.record.specs.declared.Places.{Places}
-use Rattle.record.specs.Layout.{littleEndian, u16, u32, Laid, texts, fileEnd, moduleEnd, timestampEnd, messageEnd, rightSize, laidOut, laidBy}
+use Rattle.record.specs.Layout.{littleEndian, u16, u32, Laid, texts, fileEnd, moduleEnd, timestampEnd, messageEnd, rightSize, laidOut}
+use Rattle.record.specs.Placed.{laidBy}
 
 -- ---- numbers
 

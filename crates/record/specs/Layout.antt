@@ -5,17 +5,18 @@ use mathlib.Core.Bool.{Bool, true, false, _&&_}
 use mathlib.Core.List.{List, [], _∷_}
 use lib.Dec.{eqb, leb}
 use lib.ListN.{length, getD}
-use Rattle.text.specs.Bytes.{part}
-use Rattle.record.specs.declared.Places.{Places}
+use Rattle.buffer.specs.Bytes.{part}
 
 -- "all numbers are little-endian": the number in n bytes from place i on
 unfoldable pub littleEndian : ℕ → List ℕ → ℕ → ℕ
 littleEndian zero d i = 0
 littleEndian (suc n) d i = getD d i 0 + 256 * littleEndian n d (i + 1)
 
+-- the number of two bytes at place i
 abbrev pub u16 : List ℕ → ℕ → ℕ
 u16 d i = littleEndian 2 d i
 
+-- the number of four bytes at place i
 abbrev pub u32 : List ℕ → ℕ → ℕ
 u32 d i = littleEndian 4 d i
 
@@ -34,15 +35,19 @@ pub record Laid : Type 0 where
 abbrev pub texts : ℕ
 texts = 15
 
+-- where the file's text ends
 abbrev pub fileEnd : List ℕ → ℕ
 fileEnd d = texts + u16 d 7
 
+-- where the module's text ends
 abbrev pub moduleEnd : List ℕ → ℕ
 moduleEnd d = fileEnd d + u16 d 9
 
+-- where the timestamp's text ends
 abbrev pub timestampEnd : List ℕ → ℕ
 timestampEnd d = moduleEnd d + u16 d 11
 
+-- where the message's text ends
 abbrev pub messageEnd : List ℕ → ℕ
 messageEnd d = timestampEnd d + u16 d 13
 
@@ -50,6 +55,7 @@ messageEnd d = timestampEnd d + u16 d 13
 unfoldable pub rightSize : List ℕ → Bool
 rightSize d = leb texts (length d) && eqb (messageEnd d) (length d)
 
+-- the record that bytes lay out
 unfoldable pub laidOut : List ℕ → Laid
 laidOut d = record {
   source = getD d 0 0;
@@ -60,17 +66,4 @@ laidOut d = record {
   modulePath = part (fileEnd d) (moduleEnd d) d;
   timestamp = part (moduleEnd d) (timestampEnd d) d;
   message = part (timestampEnd d) (messageEnd d) d;
-}
-
--- the same by places in bytes, wherever the texts stand in them
-unfoldable pub laidBy : Places → List ℕ → Laid
-laidBy p d = record {
-  source = p .source;
-  level = p .level;
-  mask = p .mask;
-  line = p .line;
-  file = part (p .«file_from») (p .«file_to») d;
-  modulePath = part (p .«module_from») (p .«module_to») d;
-  timestamp = part (p .«timestamp_from») (p .«timestamp_to») d;
-  message = part (p .«message_from») (p .«message_to») d;
 }

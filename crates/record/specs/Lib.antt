@@ -1,5 +1,5 @@
 pub mod Records
 pub mod Layout
-pub mod Checks
-pub mod Told
-pub mod Marks
+pub mod Contents
+pub mod Placed
+pub mod Computing

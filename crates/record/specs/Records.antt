@@ -10,6 +10,7 @@ pub data Given : Type 0 where
   absent : Given
   given : List ℕ → Given
 
+-- what a line is about
 pub record Record : Type 0 where
   pub source : Source
   pub level : Level

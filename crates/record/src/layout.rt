@@ -6,8 +6,8 @@ use super::numbers::u32_at;
 ghost use mathlib.Core.Path.{_≡_};
 ghost use mathlib.Core.Bool.{true};
 ghost use lib.ListN.{length};
-ghost use Rattle.record.specs.Layout.{rightSize, laidOut, laidBy};
-ghost use Rattle.record.specs.Told.{PlacesWithin};
+ghost use Rattle.record.specs.Layout.{rightSize, laidOut};
+ghost use Rattle.record.specs.Placed.{laidBy, PlacesWithin};
 
 // Whether the four lengths account for every byte after them.
 pub fn right_size(d: &[u8]) -> bool

@@ -2,7 +2,7 @@
 use super::Level;
 use super::Source;
 ghost use mathlib.Core.Path.{_≡_};
-ghost use Rattle.record.specs.Checks.{levelOf, sourceOf};
+ghost use Rattle.record.specs.Contents.{levelOf, sourceOf};
 
 // "Level numbers 1 to 5 mean ERROR, WARN, INFO, DEBUG, TRACE": none for 0, and none for the numbers that are refused.
 pub fn level_of(n: usize) -> Level

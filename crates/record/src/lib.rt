@@ -1,9 +1,7 @@
 // A record: what a line is about, as it is laid out in bytes, and its checks.
-use refusals::Refusal;
-
-pub mod checks;
 pub mod layout;
 pub mod levels;
+pub mod marks;
 pub mod numbers;
 
 // Who logged: the scan head, or the tablet itself.
@@ -36,10 +34,4 @@ pub struct Places {
     pub timestamp_to: usize,
     pub message_from: usize,
     pub message_to: usize,
-}
-
-// Whether a record passes its checks.
-pub enum Checked {
-    Passed,
-    Refused(Refusal),
 }

@@ -3,6 +3,7 @@ use Prim.Native.Nat.{ℕ}
 use Rattle.refusals.specs.declared.Refusal.{Refusal}
 use Rattle.refusals.specs.declared.Refusal.the-variants.{TemplateTooLong, TemplateNotUtf8, Failure, NoMessage, TooManySegments, TooDeep, TooWide, TooManyF, HalfEscape, NameTouchesLetter, FieldTooLong, FieldNotUtf8, LineTooLong, NotARecord, NotASheet}
 
+-- the number of each refusal, with the sentence that says when it is given
 abbrev pub number : Refusal → ℕ
 -- "template over 1,024 bytes"
 number TemplateTooLong = 1
@@ -34,3 +35,21 @@ number (LineTooLong n) = 13
 number NotARecord = 14
 -- "sheet over 65,536 bytes, or not laid out exactly as the sheet section says"
 number NotASheet = 15
+
+-- "13 also the length; no other refusal returns one"
+abbrev pub lengthWith : Refusal → ℕ
+lengthWith TemplateTooLong = 0
+lengthWith TemplateNotUtf8 = 0
+lengthWith Failure = 0
+lengthWith NoMessage = 0
+lengthWith TooManySegments = 0
+lengthWith TooDeep = 0
+lengthWith TooWide = 0
+lengthWith TooManyF = 0
+lengthWith HalfEscape = 0
+lengthWith NameTouchesLetter = 0
+lengthWith FieldTooLong = 0
+lengthWith FieldNotUtf8 = 0
+lengthWith (LineTooLong n) = n
+lengthWith NotARecord = 0
+lengthWith NotASheet = 0

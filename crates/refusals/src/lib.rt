@@ -1,4 +1,8 @@
-// What is given instead of a line: document 01's refusals by name. Their numbers are in specs/Numbers.antt.
+// What is given instead of a line: document 01's refusals by name, and their numbers.
+ghost use mathlib.Core.Path.{_≡_};
+ghost use Prim.Native.Nat.{_≤_};
+ghost use Rattle.refusals.specs.Numbers.{number, lengthWith};
+
 pub enum Refusal {
     TemplateTooLong,
     TemplateNotUtf8,
@@ -15,4 +19,50 @@ pub enum Refusal {
     LineTooLong(usize),
     NotARecord,
     NotASheet,
+}
+
+// The number of a refusal.
+pub fn number_of(r: Refusal) -> u8
+    ensures { λ n. ⌜ (n ≡ number r) × (n ≤ 15) ⌝ }
+{
+    match r {
+        Refusal::TemplateTooLong => 1,
+        Refusal::TemplateNotUtf8 => 2,
+        Refusal::Failure => 3,
+        Refusal::NoMessage => 4,
+        Refusal::TooManySegments => 5,
+        Refusal::TooDeep => 6,
+        Refusal::TooWide => 7,
+        Refusal::TooManyF => 8,
+        Refusal::HalfEscape => 9,
+        Refusal::NameTouchesLetter => 10,
+        Refusal::FieldTooLong => 11,
+        Refusal::FieldNotUtf8 => 12,
+        Refusal::LineTooLong(_) => 13,
+        Refusal::NotARecord => 14,
+        Refusal::NotASheet => 15,
+    }
+}
+
+// The length that a refusal tells: only that of a line that is too long.
+pub fn length_with(r: Refusal) -> usize
+    ensures { λ n. ⌜ n ≡ lengthWith r ⌝ }
+{
+    match r {
+        Refusal::TemplateTooLong => 0,
+        Refusal::TemplateNotUtf8 => 0,
+        Refusal::Failure => 0,
+        Refusal::NoMessage => 0,
+        Refusal::TooManySegments => 0,
+        Refusal::TooDeep => 0,
+        Refusal::TooWide => 0,
+        Refusal::TooManyF => 0,
+        Refusal::HalfEscape => 0,
+        Refusal::NameTouchesLetter => 0,
+        Refusal::FieldTooLong => 0,
+        Refusal::FieldNotUtf8 => 0,
+        Refusal::LineTooLong(n) => n,
+        Refusal::NotARecord => 0,
+        Refusal::NotASheet => 0,
+    }
 }

@@ -1,7 +1,7 @@
 // Runs the stored list of the crate's answers through the library, and prints how many cases were run and how many parted.
-use answer::Answer;
 use libc::STDIN_FILENO;
 use libc::STDOUT_FILENO;
+use packing::Answer;
 ghost use Prim.Native.Nat.{_+_, _<_, _≤_};
 ghost use lib.ListN.{length};
 

@@ -8,7 +8,7 @@ use borrow.Author.Tests.{eq-eqb, ne-eqb, le-leb, lt-leb}
 use Rattle.words.specs.declared.LogMetadata.{LogMetadata}
 use Rattle.segments.specs.declared.Kind.{Kind}
 use Rattle.segments.specs.Segments.{LogSegment, LogSegments, text, specifier, group, none, _and-then_}
-use Rattle.segments.specs.Pool.{cell, kindAt, formatAt, colourOf, stylesOf, widthOf, alignmentOf, paddingOf, linkBelow, back, lastOf, chainBy, segmentAs, segmentBy, segmentBelow, segmentAt, chainAt}
+use Rattle.segments.specs.Pool.{cell, kindAt, formatAt, storedColour, storedStyles, storedWidth, storedAlignment, storedPadding, linkBelow, back, lastMember, chainBy, segmentAs, segmentBy, segmentBelow, segmentAt, chainAt}
 
 -- ---- links
 
@@ -27,8 +27,8 @@ pub back-below : (cells : List ℕ) (i : ℕ) → back cells i ≤ i
 unfolding back
 back-below cells i = link-below i (cell cells i 3)
 
-pub last-below : (cells : List ℕ) (i : ℕ) → lastOf cells i ≤ i
-unfolding lastOf
+pub last-below : (cells : List ℕ) (i : ℕ) → lastMember cells i ≤ i
+unfolding lastMember
 last-below cells i = link-below i (cell cells i 1)
 
 -- ---- two pools that hold the same numbers at a place
@@ -51,14 +51,14 @@ module _ (p q : List ℕ) (i : ℕ) (e : Same p q i) where
       let b : cell p i 5 ≡ cell q i 5 = e 5 (omega arith) in
       let c : cell p i 6 ≡ cell q i 6 = e 6 (omega arith) in
       let d : cell p i 7 ≡ cell q i 7 = e 7 (omega arith) in
-      λ j. record { width = widthOf (c j); color = colourOf (a j); styles = stylesOf (b j); alignment = alignmentOf (d j); padding = paddingOf (d j) }
+      λ j. record { width = storedWidth (c j); color = storedColour (a j); styles = storedStyles (b j); alignment = storedAlignment (d j); padding = storedPadding (d j) }
 
   pub same-back : back p i ≡ back q i
   unfolding back
   same-back = ap (linkBelow i) (e 3 (omega arith))
 
-  pub same-last : lastOf p i ≡ lastOf q i
-  unfolding lastOf
+  pub same-last : lastMember p i ≡ lastMember q i
+  unfolding lastMember
   same-last = ap (linkBelow i) (e 1 (omega arith))
 
   same-as : (s : LogSegments) (k : Kind) → segmentAs p i s k ≡ segmentAs q i s k
@@ -109,10 +109,10 @@ chain-of f g p q (suc b) l h r = elim (decLt b l) [
 by-same : (f g : ℕ → LogSegment) (p q : List ℕ) (i : ℕ) → Same p q i → ((j : ℕ) → j < i → f j ≡ g j) → ((j : ℕ) → j < i → back p j ≡ back q j) → segmentBy f p i ≡ segmentBy g q i
 unfolding segmentBy
 by-same f g p q i e h r =
-    ap (segmentAs p i (chainBy f p i (lastOf p i))) (same-kind p q i e)
+    ap (segmentAs p i (chainBy f p i (lastMember p i))) (same-kind p q i e)
     ∙ ap (λ (l : ℕ). segmentAs p i (chainBy f p i l) (kindAt q i)) (same-last p q i e)
-    ∙ ap (λ (s : LogSegments). segmentAs p i s (kindAt q i)) (chain-of f g p q i (lastOf q i) h r)
-    ∙ same-as p q i e (chainBy g q i (lastOf q i)) (kindAt q i)
+    ∙ ap (λ (s : LogSegments). segmentAs p i s (kindAt q i)) (chain-of f g p q i (lastMember q i) h r)
+    ∙ same-as p q i e (chainBy g q i (lastMember q i)) (kindAt q i)
 
 below-at : (p : List ℕ) (b i : ℕ) → i ≡ b → segmentBelow p (suc b) i ≡ segmentBy (segmentBelow p b) p b
 unfolding segmentBelow
@@ -164,21 +164,21 @@ module _ (p : List ℕ) where
       ∙ ap (λ (s : LogSegments). s and-then segmentAt p m) (chain-less (segmentAt p) p m (back p m) (back-below p m))
 
   -- a segment is what its kind says, a group's members those back from its link
-  pub segment-is : (i : ℕ) → segmentAt p i ≡ segmentAs p i (chainAt p (lastOf p i)) (kindAt p i)
+  pub segment-is : (i : ℕ) → segmentAt p i ≡ segmentAs p i (chainAt p (lastMember p i)) (kindAt p i)
   unfolding segmentAt segmentBy chainAt
   segment-is i =
       below-at p i i refl
       ∙ ap (λ (s : LogSegments). segmentAs p i s (kindAt p i))
-      (chain-of (segmentBelow p i) (segmentAt p) p p i (lastOf p i) (below-is i) (λ j h. refl) ∙ chain-less (segmentAt p) p i (lastOf p i) (last-below p i))
+      (chain-of (segmentBelow p i) (segmentAt p) p p i (lastMember p i) (below-is i) (λ j h. refl) ∙ chain-less (segmentAt p) p i (lastMember p i) (last-below p i))
 
   pub segment-text : (i : ℕ) → kindAt p i ≡ Kind.Text → segmentAt p i ≡ text (cell p i 1) (cell p i 2)
   unfolding segmentAs
-  segment-text i k = segment-is i ∙ ap (segmentAs p i (chainAt p (lastOf p i))) k
+  segment-text i k = segment-is i ∙ ap (segmentAs p i (chainAt p (lastMember p i))) k
 
-  pub segment-group : (i : ℕ) → kindAt p i ≡ Kind.Group → segmentAt p i ≡ group (chainAt p (lastOf p i)) (formatAt p i)
+  pub segment-group : (i : ℕ) → kindAt p i ≡ Kind.Group → segmentAt p i ≡ group (chainAt p (lastMember p i)) (formatAt p i)
   unfolding segmentAs
-  segment-group i k = segment-is i ∙ ap (segmentAs p i (chainAt p (lastOf p i))) k
+  segment-group i k = segment-is i ∙ ap (segmentAs p i (chainAt p (lastMember p i))) k
 
   pub segment-specifier : (i : ℕ) (m : LogMetadata) → kindAt p i ≡ Kind.Specifier m → segmentAt p i ≡ specifier m (formatAt p i)
   unfolding segmentAs
-  segment-specifier i m k = segment-is i ∙ ap (segmentAs p i (chainAt p (lastOf p i))) k
+  segment-specifier i m k = segment-is i ∙ ap (segmentAs p i (chainAt p (lastMember p i))) k

@@ -5,7 +5,7 @@ use mathlib.Core.List.{List}
 use native.Mathlib.Omega.{arith}
 use lib.ListN.{getD, take}
 use lib.Seq.{getD-take, take-take}
-use Rattle.segments.specs.Pool.{cell, kindAt, formatAt, back, lastOf, segmentAt, chainAt}
+use Rattle.segments.specs.Pool.{cell, kindAt, formatAt, back, lastMember, segmentAt, chainAt}
 use Rattle.segments.proofs.Chains.{Same, same-kind, same-format, same-back, same-last, same-segment, same-chain}
 
 pub front-trans : (p q r : List ℕ) (n : ℕ) → take (8 * n) p ≡ take (8 * n) q → take (8 * n) q ≡ take (8 * n) r → take (8 * n) p ≡ take (8 * n) r
@@ -30,7 +30,7 @@ module _ (p q : List ℕ) (n : ℕ) (e : take (8 * n) p ≡ take (8 * n) q) wher
   pub back-front : (i : ℕ) → i < n → back p i ≡ back q i
   back-front i h = same-back p q i (cell-front i h)
 
-  pub last-front : (i : ℕ) → i < n → lastOf p i ≡ lastOf q i
+  pub last-front : (i : ℕ) → i < n → lastMember p i ≡ lastMember q i
   last-front i h = same-last p q i (cell-front i h)
 
   pub segment-front : (i : ℕ) → i < n → segmentAt p i ≡ segmentAt q i

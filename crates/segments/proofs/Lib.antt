@@ -3,5 +3,3 @@ pub mod Chains
 pub mod Fronts
 pub mod Growing
 pub mod Codes
-pub mod Stored
-pub mod Searching

@@ -1,4 +1,4 @@
 pub mod Segments
 pub mod Sizes
 pub mod Pool
-pub mod Storing
+pub mod Computing

@@ -1,4 +1,4 @@
--- The pool: segments as they are made, eight numbers to each, members before their group and each with a link back to the member before it.
+-- Scaffolding, for proofs alone: the pool: segments as they are made, eight numbers to each, members before their group and each with a link back to the member before it.
 -- Assumes nothing.
 use Prim.Native.Nat.{ℕ, zero, suc, _+_, _*_, _/_, _%_, _≤_, _<_}
 use mathlib.Core.Path.{_≡_}
@@ -8,6 +8,7 @@ use lib.Dec.{eqb, leb}
 use lib.ListN.{getD, take}
 use Rattle.words.specs.declared.LogMetadata.{LogMetadata}
 use Rattle.words.specs.declared.LogMetadata.the-variants.{CrateName, FileName, FilePath, LineNumber, Log, LogLevel, ModulePath, Timestamp}
+use Rattle.words.specs.declared.Color.{Color}
 use Rattle.words.specs.declared.Color.the-variants.{Black, Red, Green, Yellow, Blue, Magenta, Cyan, White, BrightBlack, BrightWhite}
 use Rattle.words.specs.declared.LogColor.{LogColor}
 use Rattle.words.specs.declared.Alignment.{Alignment}
@@ -26,7 +27,7 @@ unfoldable pub cell : List ℕ → ℕ → ℕ → ℕ
 cell cells i k = getD cells (8 * i + k) 0
 
 -- entry n of a table, or what stands for one that it hasn't got
-unfoldable pub entry : {A : Type 0} → A → List A → ℕ → A
+abbrev pub entry : {A : Type 0} → A → List A → ℕ → A
 entry other [] n = other
 entry other (a ∷ rest) zero = a
 entry other (a ∷ rest) (suc n) = entry other rest n
@@ -51,8 +52,8 @@ unfoldable pub kindAt : List ℕ → ℕ → Kind
 kindAt cells i = entry Kind.Text (kinds (cell cells i 1)) (cell cells i 0)
 
 -- number 4: the colour asked for
-abbrev pub colours : List LogColor
-colours =
+abbrev pub storedColours : List LogColor
+storedColours =
     LogColor.Unasked
     ∷ LogColor.SeverityLevel
     ∷ LogColor.WarnError
@@ -68,35 +69,58 @@ colours =
     ∷ LogColor.Color BrightWhite
     ∷ []
 
-unfoldable pub colourOf : ℕ → LogColor
-colourOf n = entry LogColor.Unasked colours n
+abbrev pub storedColour : ℕ → LogColor
+storedColour n = entry LogColor.Unasked storedColours n
+
+-- the numbers that it is stored as
+abbrev pub foregroundNumber : Color → ℕ
+foregroundNumber Black = 3
+foregroundNumber Red = 4
+foregroundNumber Green = 5
+foregroundNumber Yellow = 6
+foregroundNumber Blue = 7
+foregroundNumber Magenta = 8
+foregroundNumber Cyan = 9
+foregroundNumber White = 10
+foregroundNumber BrightBlack = 11
+foregroundNumber BrightWhite = 12
+
+abbrev pub colourNumber : LogColor → ℕ
+colourNumber LogColor.Unasked = 0
+colourNumber LogColor.SeverityLevel = 1
+colourNumber LogColor.WarnError = 2
+colourNumber (LogColor.Color c) = foregroundNumber c
 
 -- number 5: a bit for each style
-unfoldable pub bit : ℕ → Bool
+abbrev pub bit : ℕ → Bool
 bit n = eqb (n % 2) 1
 
-unfoldable pub stylesOf : ℕ → Styles
-stylesOf n = record { bold = bit n; dimmed = bit (n / 2); underline = bit (n / 4); italic = bit (n / 8); strike = bit (n / 16) }
+abbrev pub flagOf : Bool → ℕ
+flagOf true = 1
+flagOf false = 0
+
+abbrev pub storedStyles : ℕ → Styles
+storedStyles n = record { bold = bit n; dimmed = bit (n / 2); underline = bit (n / 4); italic = bit (n / 8); strike = bit (n / 16) }
 
 -- number 6: one more than the width, or 0 for none. The code keeps a width in two bytes: of a larger one the low two count
-unfoldable pub widthOf : ℕ → Width
-widthOf zero = Width.Default
-widthOf (suc n) = Width.Given (n % 65536)
+unfoldable pub storedWidth : ℕ → Width
+storedWidth zero = Width.Default
+storedWidth (suc n) = Width.Given (n % 65536)
 
 -- number 7: the alignment and three times the padding
-unfoldable pub alignmentOf : ℕ → Alignment
-alignmentOf n = entry Alignment.Left (Alignment.Left ∷ Alignment.Center ∷ Alignment.Right ∷ []) (n % 3)
+abbrev pub storedAlignment : ℕ → Alignment
+storedAlignment n = entry Alignment.Left (Alignment.Left ∷ Alignment.Center ∷ Alignment.Right ∷ []) (n % 3)
 
-unfoldable pub paddingOf : ℕ → Padding
-paddingOf n = entry Padding.Space (Padding.Space ∷ Padding.Zero ∷ []) (n / 3)
+abbrev pub storedPadding : ℕ → Padding
+storedPadding n = entry Padding.Space (Padding.Space ∷ Padding.Zero ∷ []) (n / 3)
 
 unfoldable pub formatAt : List ℕ → ℕ → LogFormat
 formatAt cells i = record {
-  width = widthOf (cell cells i 6);
-  color = colourOf (cell cells i 4);
-  styles = stylesOf (cell cells i 5);
-  alignment = alignmentOf (cell cells i 7);
-  padding = paddingOf (cell cells i 7);
+  width = storedWidth (cell cells i 6);
+  color = storedColour (cell cells i 4);
+  styles = storedStyles (cell cells i 5);
+  alignment = storedAlignment (cell cells i 7);
+  padding = storedPadding (cell cells i 7);
 }
 
 -- ---- links
@@ -110,8 +134,8 @@ unfoldable pub back : List ℕ → ℕ → ℕ
 back cells i = linkBelow i (cell cells i 3)
 
 -- the link to a group's last member
-unfoldable pub lastOf : List ℕ → ℕ → ℕ
-lastOf cells i = linkBelow i (cell cells i 1)
+unfoldable pub lastMember : List ℕ → ℕ → ℕ
+lastMember cells i = linkBelow i (cell cells i 1)
 
 -- ---- the segments that the pool holds
 
@@ -127,7 +151,7 @@ segmentAs cells i members (Kind.Specifier m) = specifier m (formatAt cells i)
 
 -- the segment at place i, those before it seen by `at`
 unfoldable pub segmentBy : (ℕ → LogSegment) → List ℕ → ℕ → LogSegment
-segmentBy at cells i = segmentAs cells i (chainBy at cells i (lastOf cells i)) (kindAt cells i)
+segmentBy at cells i = segmentAs cells i (chainBy at cells i (lastMember cells i)) (kindAt cells i)
 
 -- the segment at place i, which is below b
 unfoldable pub segmentBelow : List ℕ → ℕ → ℕ → LogSegment

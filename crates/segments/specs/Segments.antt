@@ -23,7 +23,8 @@ unfoldable pub _and-then_ : LogSegments → LogSegment → LogSegments
 none and-then x = more x none
 (more y rest) and-then x = more y (rest and-then x)
 
-unfoldable pub isSpecifier : LogSegment → Bool
+-- a specifier, not a text or a group
+abbrev pub isSpecifier : LogSegment → Bool
 isSpecifier (text i j) = false
 isSpecifier (specifier m f) = true
 isSpecifier (group s f) = false
@@ -34,7 +35,7 @@ anySpecifier none = false
 anySpecifier (more x rest) = isSpecifier x || anySpecifier rest
 
 -- `{s}`
-unfoldable pub isLog : LogMetadata → Bool
+abbrev pub isLog : LogMetadata → Bool
 isLog CrateName = false
 isLog (FileName n) = false
 isLog FilePath = false
@@ -45,7 +46,7 @@ isLog ModulePath = false
 isLog Timestamp = false
 
 -- `{t}`
-unfoldable pub isTimestamp : LogMetadata → Bool
+abbrev pub isTimestamp : LogMetadata → Bool
 isTimestamp CrateName = false
 isTimestamp (FileName n) = false
 isTimestamp FilePath = false
@@ -56,7 +57,7 @@ isTimestamp ModulePath = false
 isTimestamp Timestamp = true
 
 -- which of the two is looked for
-unfoldable pub isWanted : Wanted → LogMetadata → Bool
+abbrev pub isWanted : Wanted → LogMetadata → Bool
 isWanted Wanted.Message m = isLog m
 isWanted Wanted.Time m = isTimestamp m
 

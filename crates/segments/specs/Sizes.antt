@@ -1,4 +1,4 @@
--- How many segments there are, how deep groups stand, and how wide they ask to be: what keeps a line's length within bounds. Assumes nothing.
+-- Scaffolding, for proofs alone: how many segments there are, how deep groups stand, and how wide they ask to be: what keeps a line's length within bounds. Assumes nothing.
 use Prim.Native.Nat.{ℕ, zero, suc, _+_, _≤_}
 use Rattle.words.specs.declared.Width.{Width}
 use Rattle.segments.specs.Segments.{LogSegment, LogSegments, text, specifier, group, none, more}

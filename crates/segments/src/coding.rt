@@ -9,8 +9,7 @@ use words::Width;
 ghost use mathlib.Core.Path.{_≡_};
 ghost use Prim.Native.Nat.{_≤_};
 ghost use Rattle.segments.specs.declared.Kind.{Kind};
-ghost use Rattle.segments.specs.Pool.{entry, kinds, colourOf, stylesOf, widthOf, alignmentOf, paddingOf};
-ghost use Rattle.segments.specs.Storing.{flagOf};
+ghost use Rattle.segments.specs.Pool.{flagOf, entry, kinds, foregroundNumber, colourNumber, storedStyles, storedWidth, storedAlignment, storedPadding};
 
 // A specifier's number, and the count that only `f` has.
 pub struct Coded {
@@ -58,7 +57,7 @@ pub fn metadata_number(m: LogMetadata) -> Coded
 }
 
 pub fn colour_number(c: LogColor) -> usize
-    ensures { λ r. ⌜ (colourOf r ≡ c) × (r ≤ 12) ⌝ }
+    ensures { λ r. ⌜ r ≡ colourNumber c ⌝ }
 {
     match c {
         LogColor::Unasked => 0,
@@ -69,7 +68,7 @@ pub fn colour_number(c: LogColor) -> usize
 }
 
 fn foreground_number(k: Color) -> usize
-    ensures { λ r. ⌜ (colourOf r ≡ LogColor.Color k) × (r ≤ 12) ⌝ }
+    ensures { λ r. ⌜ r ≡ foregroundNumber k ⌝ }
 {
     match k {
         Color::Black => 3,
@@ -86,7 +85,7 @@ fn foreground_number(k: Color) -> usize
 }
 
 pub fn styles_number(s: Styles) -> usize
-    ensures { λ r. ⌜ (stylesOf r ≡ s) × (r ≤ 31) ⌝ }
+    ensures { λ r. ⌜ (storedStyles r ≡ s) × (r ≤ 31) ⌝ }
 {
     let heavy = flag(s.bold) + 2 * flag(s.dimmed);
     let lines = flag(s.underline) + 2 * flag(s.italic) + 4 * flag(s.strike);
@@ -100,7 +99,7 @@ fn flag(b: bool) -> usize
 }
 
 pub fn width_number(w: Width) -> usize
-    ensures { λ r. ⌜ widthOf r ≡ w ⌝ }
+    ensures { λ r. ⌜ storedWidth r ≡ w ⌝ }
 {
     match w {
         Width::Default => 0,
@@ -109,7 +108,7 @@ pub fn width_number(w: Width) -> usize
 }
 
 pub fn fill_number(a: Alignment, p: Padding) -> usize
-    ensures { λ r. ⌜ (alignmentOf r ≡ a) × (paddingOf r ≡ p) ⌝ }
+    ensures { λ r. ⌜ (storedAlignment r ≡ a) × (storedPadding r ≡ p) ⌝ }
 {
     match p {
         Padding::Space => match a {

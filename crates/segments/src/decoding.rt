@@ -8,7 +8,7 @@ use words::Padding;
 use words::Styles;
 use words::Width;
 ghost use mathlib.Core.Path.{_≡_};
-ghost use Rattle.segments.specs.Pool.{entry, kinds, colourOf, bit, stylesOf, widthOf, alignmentOf, paddingOf};
+ghost use Rattle.segments.specs.Pool.{entry, kinds, storedColour, bit, storedStyles, storedWidth, storedAlignment, storedPadding};
 
 pub fn kind_of(number: usize, count: usize) -> Kind
     ensures { λ r. ⌜ r ≡ entry Kind.Text (kinds count) number ⌝ }
@@ -29,7 +29,7 @@ pub fn kind_of(number: usize, count: usize) -> Kind
 }
 
 pub fn colour_of(number: usize) -> LogColor
-    ensures { λ r. ⌜ r ≡ colourOf number ⌝ }
+    ensures { λ r. ⌜ r ≡ storedColour number ⌝ }
 {
     match number {
         0 => LogColor::Unasked,
@@ -50,7 +50,7 @@ pub fn colour_of(number: usize) -> LogColor
 }
 
 pub fn styles_of(number: usize) -> Styles
-    ensures { λ r. ⌜ r ≡ stylesOf number ⌝ }
+    ensures { λ r. ⌜ r ≡ storedStyles number ⌝ }
 {
     Styles {
         bold: is_odd(number),
@@ -68,7 +68,7 @@ fn is_odd(n: usize) -> bool
 }
 
 pub fn width_of(number: usize) -> Width
-    ensures { λ r. ⌜ r ≡ widthOf number ⌝ }
+    ensures { λ r. ⌜ r ≡ storedWidth number ⌝ }
 {
     if number == 0 {
         Width::Default
@@ -78,7 +78,7 @@ pub fn width_of(number: usize) -> Width
 }
 
 pub fn alignment_of(number: usize) -> Alignment
-    ensures { λ r. ⌜ r ≡ alignmentOf number ⌝ }
+    ensures { λ r. ⌜ r ≡ storedAlignment number ⌝ }
 {
     match number % 3 {
         0 => Alignment::Left,
@@ -89,7 +89,7 @@ pub fn alignment_of(number: usize) -> Alignment
 }
 
 pub fn padding_of(number: usize) -> Padding
-    ensures { λ r. ⌜ r ≡ paddingOf number ⌝ }
+    ensures { λ r. ⌜ r ≡ storedPadding number ⌝ }
 {
     match number / 3 {
         0 => Padding::Space,

@@ -3,8 +3,6 @@ use words::LogMetadata;
 
 pub mod coding;
 pub mod decoding;
-pub mod naming;
-pub mod pool;
 
 // What a segment of the pool is.
 pub enum Kind {

@@ -2,31 +2,33 @@
 use mathlib.Core.Path.{_≡_, refl, ap, sym, subst, _∙_}
 use mathlib.Core.Bool.{Bool, true, false}
 use mathlib.Core.List.{List, [], _++_}
-use Prim.Native.Nat.{ℕ, zero, suc, _+_, _*_, _-_, _≤_, _<_}
+use Prim.Native.Nat.{ℕ, zero, suc, _+_, _-_, _≤_, _<_}
 use native.Mathlib.Omega.{arith}
 use lib.ListN.{length, getD, length-append}
-use Rattle.text.specs.Buffer.{putAt}
-use Rattle.text.proofs.Writing.{put-put}
-use Rattle.text.specs.Bytes.{part}
-use Rattle.text.specs.Table.{some}
+use Rattle.buffer.specs.Buffer.{putAt}
+use Rattle.buffer.proofs.Writing.{put-put}
+use Rattle.buffer.specs.Bytes.{part}
+use Rattle.buffer.specs.Table.{some}
 use Rattle.refusals.specs.declared.Refusal.{Refusal}
 use Rattle.segments.specs.Segments.{LogSegments}
 use Rattle.template.specs.Template.{read, refusal, readTemplate}
 use Rattle.record.specs.Layout.{u32, rightSize, laidOut}
 use Rattle.sheet.specs.Sheets.{Sheet, bodyCount, contentsEnd, bodiesFrom, isSheet, sheetOf, allLaidOut}
-use Rattle.sheet.proofs.Standing.{stands, contents-end, sheet-some, sheet-none}
+use Rattle.sheet.proofs.Standing.{stands, sheet-some, sheet-none}
 use Rattle.sheet.proofs.Walk.{Left, next-fits, next-left, records-left}
 use Rattle.sheet.proofs.Heads.{head-of, sheet-held}
 use Rattle.colour.specs.declared.Settings.{Settings}
 use Rattle.template.specs.declared.Parsed.{Parsed}
-use Rattle.template.specs.Told.{tellParsed, ReadKeeps, ParsedKeeps}
+use Rattle.template.specs.Parsing.{tellParsed, ReadKeeps, ParsedKeeps}
 use Rattle.segments.specs.Pool.{chainAt}
 use Rattle.session.specs.declared.Opened.{Opened}
-use Rattle.answer.specs.Answers.{recordOutcome, settingsOf}
-use Rattle.session.proofs.Answered.{outcome-most}
+use Rattle.session.specs.declared.walking.Walk.{Walk}
+use Rattle.answer.specs.Answers.{recordOutcome}
+use Rattle.settings.specs.Bits.{settingsOf}
+use Rattle.outcomes.proofs.Answered.{outcome-most}
 use Rattle.answer.proofs.Answering.{read-short}
-use Rattle.session.specs.Program.{lineRoom, outcomeLine, recordLines, sheetLines, maybeSheetLines, refusalLine, output}
-use Rattle.session.specs.Walking.{openedBy, opening, tellOpened, OpenedKeeps, templateIn, recordsFrom, Ready, Lies, Standing, outcomeAt, lineAt, linesFrom, allLines}
+use Rattle.outcomes.specs.Program.{lineRoom, outcomeLine, recordLines, sheetLines, maybeSheetLines, refusalLine, output}
+use Rattle.session.specs.Walking.{openedBy, opening, tellOpened, OpenedKeeps, templateIn, recordsFrom, Ready, Lies, walkFrom, walkOn, Standing, outcomeAt, lineAt, linesFrom, linesLeft, allLines}
 
 -- ---- a sheet that is one
 
@@ -56,47 +58,78 @@ headed-at d e =
       short = s .short;
     }
 
--- at the first record
-pub at-first : (d : List ℕ) → isSheet d ≡ true → bodyCount d ≤ 65535 → Standing d (bodyCount d - 1) 6 (recordsFrom d)
-unfolding recordsFrom
-at-first d e f =
+-- ---- the walk
+
+at-first : (d : List ℕ) → isSheet d ≡ true → Standing d (walkFrom d)
+unfolding walkFrom recordsFrom
+at-first d e =
     let h = head-of d (bodyCount d - 1) (one-more d e) e in
+    let s = stands d e in
     record {
-      few = omega (arith, f);
+      few = omega (arith, h .left .lengths, s .short);
       lengths = omega (arith, h .left .lengths);
       whole = h .left .whole;
       records = h .records;
     }
 
--- ---- one record, and those after it
+-- in the numbers that the code has
+pub begins : (d : List ℕ) → isSheet d ≡ true → (count from : ℕ) → count ≡ bodyCount d → from ≡ recordsFrom d → (w : Walk)
+    → w ≡ record { left = count - 1; i = 6; j = from } → (w ≡ walkFrom d) × Standing d w
+unfolding walkFrom
+begins d sheet count from p q w r =
+    let e : w ≡ walkFrom d = r ∙ (λ k. record { left = p k - 1; i = 6; j = q k }) in
+    (e, subst (Standing d) (sym e) (at-first d sheet))
 
-module _ (d : List ℕ) (m k i j : ℕ) (e : m ≡ suc k) (w : Standing d m i j) where
-  left : Left m d i j
-  left = record { lengths = omega (arith, w .lengths); whole = w .whole }
+pub lines-all : (d : List ℕ) (s : LogSegments) (w : Walk) → w ≡ walkFrom d → linesLeft d s w ≡ allLines d s
+unfolding walkFrom allLines
+lines-all d s w e = ap (linesLeft d s) e
 
-  pub lies : Lies d i j
-  lies =
-      let f = next-fits m k d i j e left in
-      record { length-fits = f .0; body-fits = f .1; size = records-left m k d i j e (w .records) .0 }
+module _ (d : List ℕ) (w : Walk) (more : 0 < w .left) where
+  one-less : w .left ≡ suc (w .left - 1)
+  one-less = omega (arith, more)
 
-  pub at-next : Standing d k (i + 4) (j + u32 d i)
-  at-next =
-      let n = next-left m k d i j e left in
-      record {
-        few = omega (arith, w .few, e);
-        lengths = omega (arith, n .lengths);
-        whole = n .whole;
-        records = records-left m k d i j e (w .records) .1;
-      }
+  module _ (at : Standing d w) where
+    left : Left (w .left) d (w .i) (w .j)
+    left = record { lengths = omega (arith, at .lengths); whole = at .whole }
 
-module _ (d : List ℕ) (s : LogSegments) (m k i j : ℕ) (e : m ≡ suc k) where
-  pub lines-next : linesFrom m d s i j ≡ lineAt d s i j ++ linesFrom k d s (i + 4) (j + u32 d i)
-  unfolding linesFrom
-  lines-next = ap (λ (n : ℕ). linesFrom n d s i j) e
+    pub next-lies : Lies d (w .i) (w .j)
+    next-lies =
+        let f = next-fits (w .left) (w .left - 1) d (w .i) (w .j) one-less left in
+        record { length-fits = f .0; body-fits = f .1; size = records-left (w .left) (w .left - 1) d (w .i) (w .j) one-less (at .records) .0 }
 
-pub lines-end : (d : List ℕ) (s : LogSegments) (m i j : ℕ) → m ≡ 0 → linesFrom m d s i j ≡ []
+    at-next : Standing d (walkOn d w)
+    unfolding walkOn
+    at-next =
+        let n = next-left (w .left) (w .left - 1) d (w .i) (w .j) one-less left in
+        record {
+          few = omega (arith, at .few);
+          lengths = omega (arith, n .lengths);
+          whole = n .whole;
+          records = records-left (w .left) (w .left - 1) d (w .i) (w .j) one-less (at .records) .1;
+        }
+
+    pub goes-on : (size : ℕ) → size ≡ u32 d (w .i) → (r : Walk) → r ≡ record { left = w .left - 1; i = w .i + 4; j = w .j + size } → (r ≡ walkOn d w) × Standing d r
+    unfolding walkOn
+    goes-on size p r q =
+        let e : r ≡ walkOn d w = q ∙ (λ k. record { left = w .left - 1; i = w .i + 4; j = w .j + p k }) in
+        (e, subst (Standing d) (sym e) at-next)
+
+  module _ (r : Walk) (on : r ≡ walkOn d w) where
+    pub fewer : r .left < w .left
+    unfolding walkOn
+    fewer = omega (arith, ap (λ (x : Walk). x .left) on)
+
+    pub lines-then : (s : LogSegments) → linesLeft d s w ≡ lineAt d s (w .i) (w .j) ++ linesLeft d s r
+    unfolding linesFrom walkOn
+    lines-then s =
+        ap (λ (n : ℕ). linesFrom n d s (w .i) (w .j)) one-less ∙ ap (λ (x : Walk). lineAt d s (w .i) (w .j) ++ linesLeft d s x) (sym on)
+
+    pub lines-count : (s : LogSegments) → length (linesLeft d s w) ≡ length (lineAt d s (w .i) (w .j)) + length (linesLeft d s r)
+    lines-count s = ap length (lines-then s) ∙ length-append (lineAt d s (w .i) (w .j)) (linesLeft d s r)
+
+pub lines-end : (d : List ℕ) (s : LogSegments) (w : Walk) → w .left ≡ 0 → linesLeft d s w ≡ []
 unfolding linesFrom
-lines-end d s m i j e = ap (λ (n : ℕ). linesFrom n d s i j) e
+lines-end d s w e = ap (λ (n : ℕ). linesFrom n d s (w .i) (w .j)) e
 
 -- ---- the output
 
@@ -142,96 +175,34 @@ refused-sheet d r false e o =
 pub output-refused : (d : List ℕ) (r : Refusal) → opening d ≡ refusal r → output d ≡ refusalLine r
 output-refused d r o = refused-sheet d r (isSheet d) refl o
 
--- ---- body 0, in the numbers that the code has
+-- ---- the bodies, as the code has them
 
-module _ (d : List ℕ) (count first : ℕ) (is-count : count ≡ bodyCount d) (is-first : first ≡ u32 d 2) where
-  is-head : contentsEnd d ≡ 2 + 4 * count
-  is-head = omega (arith, contents-end d, is-count)
+module _ (d cells t : List ℕ) (r : Parsed) (sheet : isSheet d ≡ true) (is-template : t ≡ templateIn d) (told : tellParsed r cells ≡ readTemplate t) where
+  pub opens : (n : ℕ) → 512 ≤ length cells → ParsedKeeps cells r → r ≡ Parsed.Read n → (tellOpened (Opened.Open n) cells ≡ opening d) × Ready d cells n
+  unfolding tellOpened tellParsed
+  opens n pool keeps e =
+      let p : read (chainAt cells n) ≡ readTemplate (templateIn d) = ap (λ (x : Parsed). tellParsed x cells) (sym e) ∙ told ∙ ap readTemplate is-template in
+      let k : ParsedKeeps cells (Parsed.Read n) = subst (λ (x : Parsed). ParsedKeeps cells x) e keeps in
+      (p ∙ sym (opening-some d sheet), record { sheet = sheet; pool = pool; keeps = k; short = read-short (templateIn d) (chainAt cells n) (sym p) })
 
-  pub head-fits : isSheet d ≡ true → (2 + 4 * count + 1 ≤ 2 + 4 * count + first) × ((2 + 4 * count + first ≤ length d) × (2 + 4 * count < length d))
-  unfolding recordsFrom
-  head-fits sheet =
-      let h = headed-at d sheet in
-      let b : contentsEnd d + 1 ≤ contentsEnd d + u32 d 2 = h .byte in
-      let e : contentsEnd d + u32 d 2 ≤ length d = h .end in
-      let c = is-head in
-      (omega arith, (omega arith, omega arith))
+  pub refuses : (q : Refusal) → r ≡ Parsed.Refused q → tellOpened (Opened.Refused q) cells ≡ opening d
+  unfolding tellOpened tellParsed
+  refuses q e = ap (λ (x : Parsed). tellParsed x cells) (sym e) ∙ told ∙ ap readTemplate is-template ∙ sym (opening-some d sheet)
 
-  is-template : part (2 + 4 * count + 1) (2 + 4 * count + first) d ≡ templateIn d
-  unfolding templateIn
-  is-template =
-      ap (λ (x : ℕ). part (2 + 4 * count + 1) (2 + 4 * count + x) d) is-first ∙ ap (λ (x : ℕ). part (x + 1) (x + u32 d 2) d) (sym is-head)
+module _ (d : List ℕ) (i j : ℕ) (t x : List ℕ) (is-template : t ≡ templateIn d) (is-record : x ≡ part j (j + u32 d i) d) where
+  pub asked : (cells : List ℕ) (n : ℕ) → Ready d cells n → Lies d i j
+      → (512 ≤ length cells) × (ReadKeeps cells n × ((length t ≤ 1024) × (rightSize x ≡ true)))
+  asked cells n ready there =
+      (ready .pool, (ready .keeps, (subst (λ (y : List ℕ). length y ≤ 1024) (sym is-template) (ready .short), ap rightSize is-record ∙ there .size)))
 
-  pub first-record : 2 + 4 * count + first ≡ recordsFrom d
-  unfolding recordsFrom
-  first-record = omega (arith, is-head, is-first)
-
-  module _ (cells : List ℕ) (r : Parsed) (sheet : isSheet d ≡ true) (told : tellParsed r cells ≡ readTemplate (part (2 + 4 * count + 1) (2 + 4 * count + first) d)) where
-    pub opens : (n : ℕ) → 512 ≤ length cells → ParsedKeeps cells r → r ≡ Parsed.Read n → (tellOpened (Opened.Open n) cells ≡ opening d) × Ready d cells n
-    unfolding tellOpened tellParsed
-    opens n pool keeps e =
-        let t : read (chainAt cells n) ≡ readTemplate (templateIn d) = ap (λ (x : Parsed). tellParsed x cells) (sym e) ∙ told ∙ ap readTemplate is-template in
-        let k : ParsedKeeps cells (Parsed.Read n) = subst (λ (x : Parsed). ParsedKeeps cells x) e keeps in
-        (t ∙ sym (opening-some d sheet), record { sheet = sheet; pool = pool; keeps = k; short = read-short (templateIn d) (chainAt cells n) (sym t) })
-
-    pub refuses : (q : Refusal) → r ≡ Parsed.Refused q → tellOpened (Opened.Refused q) cells ≡ opening d
-    unfolding tellOpened tellParsed
-    refuses q e = ap (λ (x : Parsed). tellParsed x cells) (sym e) ∙ told ∙ ap readTemplate is-template ∙ sym (opening-some d sheet)
-
-  -- the parts that a record's line is made of
-  module _ (i j size : ℕ) (is-size : size ≡ u32 d i) where
-    is-record : part j (j + size) d ≡ part j (j + u32 d i) d
-    is-record = ap (λ (x : ℕ). part j (j + x) d) is-size
-
-    pub asked : (cells : List ℕ) (n : ℕ) → Ready d cells n → Lies d i j
-        → (512 ≤ length cells) × (ReadKeeps cells n × ((length (part (2 + 4 * count + 1) (2 + 4 * count + first) d) ≤ 1024) × (rightSize (part j (j + size) d) ≡ true)))
-    asked cells n ready there =
-        (ready .pool, (ready .keeps, (subst (λ (x : List ℕ). length x ≤ 1024) (sym is-template) (ready .short), ap rightSize is-record ∙ there .size)))
-
-    pub line-is : (s : LogSegments) (a : Settings) → a ≡ settingsOf (getD d (2 + 4 * count) 0)
-        → outcomeLine (recordOutcome a (part (2 + 4 * count + 1) (2 + 4 * count + first) d) s (laidOut (part j (j + size) d)) lineRoom) ≡ lineAt d s i j
-    unfolding lineAt outcomeAt
-    line-is s a e =
-        ap (λ (x : Settings). outcomeLine (recordOutcome x (part (2 + 4 * count + 1) (2 + 4 * count + first) d) s (laidOut (part j (j + size) d)) lineRoom)) (e ∙ ap (λ (x : ℕ). settingsOf (getD d x 0)) (sym is-head))
-        ∙ ap (λ (x : List ℕ). outcomeLine (recordOutcome (settingsOf (getD d (contentsEnd d) 0)) x s (laidOut (part j (j + size) d)) lineRoom)) is-template
-        ∙ ap (λ (x : List ℕ). outcomeLine (recordOutcome (settingsOf (getD d (contentsEnd d) 0)) (templateIn d) s (laidOut x) lineRoom)) is-record
+  pub line-is : (s : LogSegments) (a : Settings) → a ≡ settingsOf (getD d (contentsEnd d) 0)
+      → outcomeLine (recordOutcome a t s (laidOut x) lineRoom) ≡ lineAt d s i j
+  unfolding lineAt outcomeAt
+  line-is s a e = λ k. outcomeLine (recordOutcome (e k) (is-template k) s (laidOut (is-record k)) lineRoom)
 
 pub line-most : (d : List ℕ) (s : LogSegments) (i j : ℕ) → length (lineAt d s i j) ≤ 65537
 unfolding lineAt outcomeAt
 line-most d s i j = outcome-most (settingsOf (getD d (contentsEnd d) 0)) (templateIn d) s (laidOut (part j (j + u32 d i) d))
-
--- ---- the walk, in the numbers that the code has
-
-module _ (d : List ℕ) (count first : ℕ) (is-count : count ≡ bodyCount d) (is-first : first ≡ u32 d 2) where
-  pub begins : isSheet d ≡ true → count ≤ 65535 → Standing d (count - 1) 6 (2 + 4 * count + first)
-  begins sheet few =
-      let w = at-first d sheet (omega (arith, is-count)) in
-      let e : bodyCount d - 1 ≡ count - 1 = omega (arith, is-count) in
-      subst (λ (m : ℕ). Standing d m 6 (2 + 4 * count + first)) e
-      (subst (λ (j : ℕ). Standing d (bodyCount d - 1) 6 j) (sym (first-record d count first is-count is-first)) w)
-
-  pub begins-lines : (s : LogSegments) → linesFrom (count - 1) d s 6 (2 + 4 * count + first) ≡ allLines d s
-  unfolding allLines
-  begins-lines s =
-      ap (λ (m : ℕ). linesFrom (m - 1) d s 6 (2 + 4 * count + first)) is-count
-      ∙ ap (λ (j : ℕ). linesFrom (bodyCount d - 1) d s 6 j) (first-record d count first is-count is-first)
-
-module _ (d : List ℕ) (m i j size : ℕ) (more : 0 < m) (is-size : size ≡ u32 d i) where
-  one-less : m ≡ suc (m - 1)
-  one-less = omega (arith, more)
-
-  pub stands-then : Standing d m i j → Standing d (m - 1) (i + 4) (j + size)
-  stands-then w = subst (λ (x : ℕ). Standing d (m - 1) (i + 4) (j + x)) (sym is-size) (at-next d m (m - 1) i j one-less w)
-
-  pub lines-then : (s : LogSegments) → linesFrom m d s i j ≡ lineAt d s i j ++ linesFrom (m - 1) d s (i + 4) (j + size)
-  lines-then s =
-      lines-next d s m (m - 1) i j one-less ∙ ap (λ (x : ℕ). lineAt d s i j ++ linesFrom (m - 1) d s (i + 4) (j + x)) (sym is-size)
-
-  pub lines-count : (s : LogSegments) → length (linesFrom m d s i j) ≡ length (lineAt d s i j) + length (linesFrom (m - 1) d s (i + 4) (j + size))
-  lines-count s = ap length (lines-then s) ∙ length-append (lineAt d s i j) (linesFrom (m - 1) d s (i + 4) (j + size))
-
-pub next-lies : (d : List ℕ) (m i j : ℕ) → 0 < m → Standing d m i j → Lies d i j
-next-lies d m i j more w = lies d m (m - 1) i j (omega (arith, more)) w
 
 -- what is written after what is written
 pub put-then : (d d′ : List ℕ) (at to : ℕ) (s t : List ℕ) → d′ ≡ putAt d at s → to ≡ at + length s → at + (length s + length t) ≤ length d → putAt d′ to t ≡ putAt d at (s ++ t)

@@ -1,21 +1,24 @@
--- The program's output by places in the sheet, as the code walks along it. Assumes nothing.
+-- Scaffolding, for proofs alone: the program's output by places in the sheet, as the code walks along it. Assumes nothing.
 use Prim.Native.Nat.{ℕ, zero, suc, _+_, _-_, _*_, _≤_}
 use mathlib.Core.Path.{_≡_}
 use mathlib.Core.Bool.{true}
 use mathlib.Core.List.{List, [], _++_}
 use lib.ListN.{length, getD}
-use Rattle.text.specs.Bytes.{part}
-use Rattle.text.specs.Table.{Maybe, none, some}
+use Rattle.buffer.specs.Bytes.{part}
+use Rattle.buffer.specs.Buffer.{putAt}
+use Rattle.buffer.specs.Table.{Maybe, none, some}
 use Rattle.refusals.specs.declared.Refusal.{Refusal}
 use Rattle.segments.specs.Segments.{LogSegments}
 use Rattle.segments.specs.Pool.{chainAt}
 use Rattle.template.specs.Template.{Template, read, refusal, readTemplate}
-use Rattle.template.specs.Told.{ReadKeeps}
+use Rattle.template.specs.Parsing.{ReadKeeps}
 use Rattle.record.specs.Layout.{u32, rightSize, laidOut}
-use Rattle.answer.specs.Answers.{Outcome, recordOutcome, settingsOf}
+use Rattle.answer.specs.Answers.{Outcome, recordOutcome}
+use Rattle.settings.specs.Bits.{settingsOf}
 use Rattle.sheet.specs.Sheets.{Sheet, bodyCount, contentsEnd, bodiesFrom, bodyBytes, areRecords, isSheet, sheetOf}
 use Rattle.session.specs.declared.Opened.{Opened}
-use Rattle.session.specs.Program.{lineRoom, outcomeLine}
+use Rattle.session.specs.declared.walking.Walk.{Walk}
+use Rattle.outcomes.specs.Program.{lineRoom, outcomeLine}
 
 -- ---- opening a sheet
 
@@ -59,12 +62,22 @@ pub record Lies (d : List ℕ) (i j : ℕ) : Type 0 where
   pub body-fits : j + u32 d i ≤ length d
   pub size : rightSize (part j (j + u32 d i) d) ≡ true
 
--- m records are left, and they reach to the sheet's end
-pub record Standing (d : List ℕ) (m i j : ℕ) : Type 0 where
-  pub few : m ≤ 65535
-  pub lengths : i + 4 * m ≤ length d
-  pub whole : j + bodyBytes m d i ≡ length d
-  pub records : areRecords (bodiesFrom m d i j) ≡ true
+-- ---- the walk along the records
+
+-- its place at the first one
+unfoldable pub walkFrom : List ℕ → Walk
+walkFrom d = record { left = bodyCount d - 1; i = 6; j = recordsFrom d }
+
+-- its place past the one at w
+unfoldable pub walkOn : List ℕ → Walk → Walk
+walkOn d w = record { left = w .left - 1; i = w .i + 4; j = w .j + u32 d (w .i) }
+
+-- the records left at w are few, and reach to the sheet's end
+pub record Standing (d : List ℕ) (w : Walk) : Type 0 where
+  pub few : w .left ≤ 65535
+  pub lengths : w .i + 4 * w .left ≤ length d
+  pub whole : w .j + bodyBytes (w .left) d (w .i) ≡ length d
+  pub records : areRecords (bodiesFrom (w .left) d (w .i) (w .j)) ≡ true
 
 -- ---- what is written
 
@@ -80,6 +93,18 @@ unfoldable pub linesFrom : ℕ → List ℕ → LogSegments → ℕ → ℕ → 
 linesFrom zero d s i j = []
 linesFrom (suc m) d s i j = lineAt d s i j ++ linesFrom m d s (i + 4) (j + u32 d i)
 
+-- the lines of the records that are left at w
+abbrev pub linesLeft : List ℕ → LogSegments → Walk → List ℕ
+linesLeft d s w = linesFrom (w .left) d s (w .i) (w .j)
+
+-- d became d′: the text x, a line at most, stands at its front, and r is its length
+abbrev pub Shows : List ℕ → List ℕ → List ℕ → ℕ → Type 0
+Shows d d′ x r = (r ≡ length x) × ((r ≤ 65537) × (d′ ≡ putAt d 0 x))
+
 -- the lines of all records
 unfoldable pub allLines : List ℕ → LogSegments → List ℕ
 allLines d s = linesFrom (bodyCount d - 1) d s 6 (recordsFrom d)
+
+-- the same by a template that was read as the first n segments of a pool
+abbrev pub linesOf : List ℕ → List ℕ → ℕ → List ℕ
+linesOf d cells n = allLines d (chainAt cells n)

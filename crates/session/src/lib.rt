@@ -1,24 +1,21 @@
 // A whole session: what the program writes for a sheet.
-use answer::Answer;
 use opening::open_sheet;
+use outcomes::refusing::put_refusal;
+use outcomes::refusing::refusal_length;
+use packing::Answer;
 use refusals::Refusal;
-use refusing::put_refusal;
-use refusing::refusal_length;
 use walking::put_records;
 use walking::records_length;
-
-pub mod opening;
-pub mod outcomes;
-pub mod records;
-pub mod refusing;
-pub mod walking;
-
 ghost use mathlib.Core.Path.{_≡_};
 ghost use lib.ListN.{length};
-ghost use Rattle.segments.specs.Pool.{chainAt};
 ghost use Rattle.answer.specs.Answers.{inRoom, answerOf, bufferAfter};
-ghost use Rattle.session.specs.Program.{refusalLine, output};
-ghost use Rattle.session.specs.Walking.{Ready, allLines};
+ghost use Rattle.outcomes.specs.Program.{refusalLine, output};
+ghost use Rattle.session.specs.Walking.{Ready, linesOf};
+
+mod bodies;
+pub mod opening;
+pub mod records;
+pub mod walking;
 
 // A sheet whose template was read into so many segments, or the refusal of the whole sheet.
 pub enum Opened {
@@ -41,8 +38,8 @@ pub fn session(d: &[u8], out: &mut [u8]) -> Answer
 
 fn all_records(d: &[u8], cells: &[usize], n: usize, out: &mut [u8]) -> Answer
     requires { ⌜ Ready (now d) (now cells) n ⌝ }
-    ensures answer { λ r. ⌜ r ≡ answerOf (inRoom (length (now (out .entry))) (allLines (now (d .entry)) (chainAt (now (cells .entry)) n))) ⌝ }
-    ensures buffer { λ r. ⌜ now (out .exit) ≡ bufferAfter (now (out .entry)) (inRoom (length (now (out .entry))) (allLines (now (d .entry)) (chainAt (now (cells .entry)) n))) ⌝ }
+    ensures answer { λ r. ⌜ r ≡ answerOf (inRoom (length (now (out .entry))) (linesOf (now (d .entry)) (now (cells .entry)) n)) ⌝ }
+    ensures buffer { λ r. ⌜ now (out .exit) ≡ bufferAfter (now (out .entry)) (inRoom (length (now (out .entry))) (linesOf (now (d .entry)) (now (cells .entry)) n)) ⌝ }
 {
     let len = records_length(d, cells, n);
     if out.len() < len {

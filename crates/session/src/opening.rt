@@ -1,11 +1,10 @@
 // Opening a sheet: is it one, and is its template read?
 use super::Opened;
+use super::bodies::template_in;
 use refusals::Refusal;
-use sheet::body_count;
-use sheet::body_length;
 use sheet::is_sheet;
 use template::Parsed;
-use template::parse::parse;
+use template::parse;
 ghost use mathlib.Core.Path.{_≡_};
 ghost use mathlib.Core.Bool.{true};
 ghost use Prim.Native.Nat.{_≤_};
@@ -30,10 +29,7 @@ fn read_template(d: &[u8], cells: &mut [usize]) -> Opened
     ensures told { λ r. ⌜ tellOpened r (now (cells .exit)) ≡ opening (now (d .entry)) ⌝ }
     ensures keeps { λ r. ⌜ OpenedKeeps (now (d .entry)) (now (cells .exit)) r ⌝ }
 {
-    let head = 2 + 4 * body_count(d);
-    let from = head + 1;
-    let to = head + body_length(d, 2);
-    let read = parse(&d[from..to], cells);
+    let read = parse(template_in(d), cells);
     match read {
         Parsed::Read(n) => Opened::Open(n),
         Parsed::Refused(r) => Opened::Refused(r),

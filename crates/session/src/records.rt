@@ -1,26 +1,22 @@
 // The records of an open sheet, by places: the length of one stands at the place i of the contents, and it begins at the place j.
-use super::outcomes::outcome_length;
-use super::outcomes::put_outcome;
-use answer::settings_of;
-use sheet::body_count;
-use sheet::body_length;
+use super::bodies::record_in;
+use super::bodies::settings_in;
+use super::bodies::template_in;
+use outcomes::outcome_length;
+use outcomes::put_outcome;
 ghost use mathlib.Core.Path.{_≡_};
 ghost use Prim.Native.Nat.{_+_, _≤_};
 ghost use lib.ListN.{length};
-ghost use Rattle.text.specs.Buffer.{putAt};
+ghost use Rattle.buffer.specs.Buffer.{Puts};
 ghost use Rattle.segments.specs.Pool.{chainAt};
-ghost use Rattle.session.specs.Walking.{Ready, Lies, lineAt};
+ghost use Rattle.session.specs.Walking.{Ready, Lies, lineAt, Shows};
 
 // How many bytes are written for a record.
 pub fn record_length(d: &[u8], cells: &[usize], n: usize, i: usize, j: usize) -> usize
     requires { ⌜ Ready (now d) (now cells) n × Lies (now d) i j ⌝ }
     ensures { λ r. ⌜ (r ≡ length (lineAt (now (d .entry)) (chainAt (now (cells .entry)) n) i j)) × (r ≤ 65537) ⌝ }
 {
-    let head = 2 + 4 * body_count(d);
-    let from = head + 1;
-    let to = head + body_length(d, 2);
-    let end = j + body_length(d, i);
-    outcome_length(cells, n, &d[from..to], settings_of(d[head]), &d[j..end])
+    outcome_length(cells, n, template_in(d), settings_in(d), record_in(d, i, j))
 }
 
 // Writes them at the place `at`, and returns the place after them.
@@ -35,18 +31,14 @@ pub fn put_record(
 ) -> usize
     requires { ⌜ Ready (now d) (now cells) n × Lies (now d) i j ⌝ }
     requires { ⌜ at + length (lineAt (now d) (chainAt (now cells) n) i j) ≤ length (now out) ⌝ }
-    ensures { λ r. ⌜ (r ≡ at + length (lineAt (now (d .entry)) (chainAt (now (cells .entry)) n) i j)) × (now (out .exit) ≡ putAt (now (out .entry)) at (lineAt (now (d .entry)) (chainAt (now (cells .entry)) n) i j)) ⌝ }
+    ensures { λ r. ⌜ Puts (now (out .entry)) (now (out .exit)) at (lineAt (now (d .entry)) (chainAt (now (cells .entry)) n) i j) r ⌝ }
 {
-    let head = 2 + 4 * body_count(d);
-    let from = head + 1;
-    let to = head + body_length(d, 2);
-    let end = j + body_length(d, i);
     put_outcome(
         cells,
         n,
-        &d[from..to],
-        settings_of(d[head]),
-        &d[j..end],
+        template_in(d),
+        settings_in(d),
+        record_in(d, i, j),
         out,
         at,
     )
@@ -56,7 +48,7 @@ pub fn put_record(
 pub fn record_text(d: &[u8], cells: &[usize], n: usize, i: usize, j: usize, out: &mut [u8]) -> usize
     requires { ⌜ Ready (now d) (now cells) n × Lies (now d) i j ⌝ }
     requires { ⌜ 65537 ≤ length (now out) ⌝ }
-    ensures { λ r. ⌜ (r ≡ length (lineAt (now (d .entry)) (chainAt (now (cells .entry)) n) i j)) × ((r ≤ 65537) × (now (out .exit) ≡ putAt (now (out .entry)) 0 (lineAt (now (d .entry)) (chainAt (now (cells .entry)) n) i j))) ⌝ }
+    ensures { λ r. ⌜ Shows (now (out .entry)) (now (out .exit)) (lineAt (now (d .entry)) (chainAt (now (cells .entry)) n) i j) r ⌝ }
 {
     put_record(d, cells, n, i, j, out, 0)
 }

@@ -7,8 +7,8 @@ use native.Mathlib.Omega.{arith}
 use lib.Dec.{ltb}
 use lib.ListN.{length, getD}
 use borrow.Author.Tests.{ltb-true}
-use Rattle.text.specs.Bytes.{part}
-use Rattle.text.proofs.Parts.{part-step, part-length}
+use Rattle.buffer.specs.Bytes.{part}
+use Rattle.buffer.proofs.Parts.{part-step, part-length}
 use Rattle.record.specs.Layout.{u32}
 use Rattle.sheet.specs.Sheets.{bodyCount, contentsEnd, bodiesFrom, bodies, isHead, areRecords, areBodies, isSheet, allLaidOut, headed, held}
 use Rattle.sheet.proofs.Standing.{both-true, stands}

@@ -6,7 +6,7 @@ use Prim.Native.Nat.{ℕ, _+_, _*_, _≤_, _<_}
 use lib.Dec.{eqb, leb}
 use lib.ListN.{length}
 use borrow.Author.Tests.{leb-true, eqb-true, le-leb, lt-leb, eq-eqb, ne-eqb}
-use Rattle.text.specs.Table.{none, some}
+use Rattle.buffer.specs.Table.{none, some}
 use Rattle.sheet.specs.Sheets.{bodyCount, contentsEnd, bodyBytes, bodies, areBodies, isSheet, held, sheetOf}
 
 -- both of two tests

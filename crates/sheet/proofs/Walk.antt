@@ -6,7 +6,7 @@ use mathlib.Core.List.{List, [], _∷_}
 use Prim.Native.Nat.{ℕ, suc, _+_, _*_, _≤_}
 use native.Mathlib.Omega.{arith}
 use lib.ListN.{length}
-use Rattle.text.specs.Bytes.{part}
+use Rattle.buffer.specs.Bytes.{part}
 use Rattle.record.specs.Layout.{u32, rightSize, laidOut}
 use Rattle.sheet.specs.Sheets.{bodyCount, contentsEnd, bodyBytes, bodiesFrom, areRecords, isSheet, allLaidOut}
 use Rattle.sheet.proofs.Standing.{both-true, stands, contents-end}

@@ -4,8 +4,8 @@ use mathlib.Core.Bool.{Bool, true, false, _&&_}
 use mathlib.Core.List.{List, [], _∷_}
 use lib.Dec.{eqb, leb, ltb}
 use lib.ListN.{length}
-use Rattle.text.specs.Bytes.{part}
-use Rattle.text.specs.Table.{Maybe, none, some}
+use Rattle.buffer.specs.Bytes.{part}
+use Rattle.buffer.specs.Table.{Maybe, none, some}
 use Rattle.record.specs.Layout.{u16, u32, rightSize, Laid, laidOut}
 
 -- ---- the bodies of a sheet
@@ -14,6 +14,7 @@ use Rattle.record.specs.Layout.{u16, u32, rightSize, Laid, laidOut}
 unfoldable pub bodyCount : List ℕ → ℕ
 bodyCount d = u16 d 0
 
+-- where the contents end and body 0 begins
 unfoldable pub contentsEnd : List ℕ → ℕ
 contentsEnd d = 2 + 4 * bodyCount d
 
@@ -27,6 +28,7 @@ unfoldable pub bodiesFrom : ℕ → List ℕ → ℕ → ℕ → List (List ℕ)
 bodiesFrom zero d i j = []
 bodiesFrom (suc n) d i j = part j (j + u32 d i) d ∷ bodiesFrom n d (i + 4) (j + u32 d i)
 
+-- the bodies of a sheet
 unfoldable pub bodies : List ℕ → List (List ℕ)
 bodies d = bodiesFrom (bodyCount d) d 2 (contentsEnd d)
 
@@ -42,6 +44,7 @@ unfoldable pub areRecords : List (List ℕ) → Bool
 areRecords [] = true
 areRecords (body ∷ rest) = rightSize body && areRecords rest
 
+-- body 0, and records
 unfoldable pub areBodies : List (List ℕ) → Bool
 areBodies [] = false
 areBodies (head ∷ records) = isHead head && areRecords records
@@ -58,22 +61,27 @@ isSheet d =
 
 -- ---- what a sheet holds
 
+-- what a sheet says
 pub record Sheet : Type 0 where
   pub settings : ℕ
   pub template : List ℕ
   pub records : List Laid
 
+-- the records that bodies lay out
 unfoldable pub allLaidOut : List (List ℕ) → List Laid
 allLaidOut [] = []
 allLaidOut (body ∷ rest) = laidOut body ∷ allLaidOut rest
 
+-- a sheet by its body 0 and its other bodies
 unfoldable pub headed : List ℕ → List (List ℕ) → Sheet
 headed [] records = record { settings = 0; template = []; records = allLaidOut records }
 headed (settings ∷ template) records = record { settings = settings; template = template; records = allLaidOut records }
 
+-- a sheet by its bodies
 unfoldable pub held : List (List ℕ) → Sheet
 held [] = headed [] []
 held (head ∷ records) = headed head records
 
+-- what bytes hold, if they are a sheet
 unfoldable pub sheetOf : List ℕ → Maybe Sheet
 sheetOf d = elim (isSheet d) [ true ↦ some (held (bodies d)) | false ↦ none ]

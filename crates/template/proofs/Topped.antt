@@ -7,26 +7,27 @@ use native.Mathlib.Omega.{arith}
 use lib.Dec.{leb, ltb}
 use lib.ListN.{length, take}
 use borrow.Author.Tests.{le-leb, lt-leb, le-ltb}
-use Rattle.text.specs.Utf8.{valid}
+use Rattle.utf8.specs.Utf8.{valid}
 use Rattle.refusals.specs.declared.Refusal.{Refusal}
-use Rattle.words.specs.Runs.{stands, runEnd}
+use Rattle.runs.specs.Runs.{stands, runEnd}
 use Rattle.words.specs.Trying.{Tried, fit, misfit, refused, _or-else_, _then_, repeated}
 use Rattle.words.proofs.Attempts.{or-else-fit, or-else-misfit, or-else-refused, then-fit, then-misfit, then-refused, repeated-fit, repeated-misfit, repeated-refused}
 use Rattle.segments.specs.declared.Wanted.{Wanted}
-use Rattle.segments.specs.Segments.{LogSegment, LogSegments, none, _and-then_, isLog, isTimestamp, isWanted, namedAmong}
+use Rattle.segments.specs.Segments.{LogSegment, LogSegments, none, _and-then_, isLog, isWanted, namedAmong}
 use Rattle.segments.specs.Sizes.{size, sizes, Low, Lows}
 use Rattle.segments.specs.Pool.{segmentAt, chainAt, back, Sound}
 use Rattle.segments.proofs.Fronts.{chain-front}
 use Rattle.segments.proofs.Chains.{chain-none, chain-step}
 use Rattle.segments.proofs.Growing.{sound-none, sound-front}
 use Rattle.segments.proofs.Joining.{sizes-and-then, lows-and-then}
-use Rattle.template.specs.declared.Reading.{Reading}
+use Rattle.building.specs.declared.Reading.{Reading}
 use Rattle.template.specs.declared.Parsed.{Parsed}
-use Rattle.template.specs.Reading.{Made, Reader, Top, textAt, braceAt, insideAt, withTop, topAt}
+use Rattle.building.specs.Reading.{Made, Reader, Top, textAt, braceAt, insideAt, withTop, topAt}
 use Rattle.template.specs.Template.{Template, read, refusal, withMessage, ended, topLevel, readTemplate, namesTimestamp}
-use Rattle.template.specs.Told.{lastMade, tell, tellParsed, Room, Fitted, ReadKeeps}
-use Rattle.template.proofs.Answers.{reading-fit, reading-misfit, reading-refused}
-use Rattle.template.proofs.Grouped.{brace-past, text-past}
+use Rattle.building.specs.Told.{lastMade, tell, Room, Fitted}
+use Rattle.template.specs.Parsing.{tellParsed, ReadKeeps}
+use Rattle.building.proofs.Answers.{reading-fit, reading-misfit, reading-refused}
+use Rattle.lists.proofs.Grouped.{brace-past, text-past}
 
 -- ---- a brace, else text
 
@@ -127,11 +128,10 @@ module _ (t : List ℕ) where
 -- ---- a message
 
 message : (s : LogSegments) → namedAmong (isWanted Wanted.Message) s ≡ namedAmong isLog s
-unfolding isWanted
 message s = refl
 
 pub timestamp : (s : LogSegments) → namedAmong (isWanted Wanted.Time) s ≡ namesTimestamp s
-unfolding isWanted namesTimestamp
+unfolding namesTimestamp
 timestamp s = refl
 
 module _ (cells : List ℕ) (n : ℕ) (b : Bool) (q : b ≡ namedAmong (isWanted Wanted.Message) (chainAt cells n)) where

@@ -1,4 +1,3 @@
-pub mod Braces
-pub mod Reading
 pub mod Template
-pub mod Told
+pub mod Parsing
+pub mod Computing

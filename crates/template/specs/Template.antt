@@ -4,11 +4,11 @@ use mathlib.Core.Bool.{Bool, true, false}
 use mathlib.Core.List.{List}
 use lib.Dec.{leb}
 use lib.ListN.{length}
-use Rattle.text.specs.Utf8.{valid}
+use Rattle.utf8.specs.Utf8.{valid}
 use Rattle.refusals.specs.declared.Refusal.{Refusal}
 use Rattle.words.specs.Trying.{Tried, fit, misfit, refused, repeated}
 use Rattle.segments.specs.Segments.{LogSegments, none, isLog, isTimestamp, namedAmong}
-use Rattle.template.specs.Reading.{Top, topAt}
+use Rattle.building.specs.Reading.{Top, topAt}
 
 -- what reading a template gives
 pub data Template : Type 0 where

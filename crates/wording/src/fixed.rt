@@ -1,64 +1,67 @@
 // Placeholders and the names of levels.
+use buffer::put;
 use fields::Fixed;
 use measure::Measure;
 use measure::growing::add;
-use text::buffer::put;
 ghost use mathlib.Core.Path.{_≡_};
 ghost use Prim.Native.Nat.{_+_, _<_, _≤_, _^_};
 ghost use lib.ListN.{length};
-ghost use Rattle.text.specs.Buffer.{putAt};
+ghost use Rattle.buffer.specs.Buffer.{Puts};
 ghost use Rattle.fields.specs.Wordings.{fixedText};
 ghost use Rattle.measure.specs.Measures.{grown, Small};
+ghost use Rattle.wording.specs.Table.{Stands};
 
-pub(crate) fn add_fixed(x: Fixed, a: Measure) -> Measure
+// The texts one after another, as they have different lengths.
+const TEXTS: [u8; 52] = *b"<crate><file><mod path><time>ERRORWARNINFODEBUGTRACE";
+
+// Where one of them stands.
+pub struct Place {
+    pub from: usize,
+    pub to: usize,
+}
+
+fn place_of(x: Fixed) -> Place
+    ensures { λ r. ⌜ Stands (fixedText x) r ⌝ }
+{
+    match x {
+        Fixed::Empty => Place { from: 0, to: 0 },
+        Fixed::Crate => Place { from: 0, to: 7 },
+        Fixed::File => Place { from: 7, to: 13 },
+        Fixed::ModulePath => Place { from: 13, to: 23 },
+        Fixed::Time => Place { from: 23, to: 29 },
+        Fixed::Error => Place { from: 29, to: 34 },
+        Fixed::Warn => Place { from: 34, to: 38 },
+        Fixed::Info => Place { from: 38, to: 42 },
+        Fixed::Debug => Place { from: 42, to: 47 },
+        Fixed::Trace => Place { from: 47, to: 52 },
+    }
+}
+
+pub fn add_fixed(x: Fixed, a: Measure) -> Measure
     requires { ⌜ (Small a) × (a .len + length (fixedText x) < 2 ^ 58) ⌝ }
     ensures { λ r. ⌜ r ≡ grown a (fixedText x) ⌝ }
 {
-    match x {
-        Fixed::Empty => a,
-        Fixed::Crate => add(a, b"<crate>"),
-        Fixed::File => add(a, b"<file>"),
-        Fixed::ModulePath => add(a, b"<mod path>"),
-        Fixed::Time => add(a, b"<time>"),
-        Fixed::Error => add(a, b"ERROR"),
-        Fixed::Warn => add(a, b"WARN"),
-        Fixed::Info => add(a, b"INFO"),
-        Fixed::Debug => add(a, b"DEBUG"),
-        Fixed::Trace => add(a, b"TRACE"),
-    }
+    let p = place_of(x);
+    let from = p.from;
+    let to = p.to;
+    let texts = TEXTS;
+    add(a, &texts[from..to])
 }
 
-pub(crate) fn fixed_len(x: Fixed) -> usize
+pub fn fixed_len(x: Fixed) -> usize
     ensures { λ r. ⌜ r ≡ length (fixedText x) ⌝ }
 {
-    match x {
-        Fixed::Empty => 0,
-        Fixed::Crate => 7,
-        Fixed::File => 6,
-        Fixed::ModulePath => 10,
-        Fixed::Time => 6,
-        Fixed::Error => 5,
-        Fixed::Warn => 4,
-        Fixed::Info => 4,
-        Fixed::Debug => 5,
-        Fixed::Trace => 5,
-    }
+    let p = place_of(x);
+    p.to - p.from
 }
 
-pub(crate) fn put_fixed(x: Fixed, out: &mut [u8], at: usize) -> usize
+pub fn put_fixed(x: Fixed, out: &mut [u8], at: usize) -> usize
     requires { ⌜ at + length (fixedText x) ≤ length (now out) ⌝ }
-    ensures { λ r. ⌜ (r ≡ at + length (fixedText x)) × (now (out .exit) ≡ putAt (now (out .entry)) at (fixedText x)) ⌝ }
+    ensures { λ r. ⌜ Puts (now (out .entry)) (now (out .exit)) at (fixedText x) r ⌝ }
 {
-    match x {
-        Fixed::Empty => at,
-        Fixed::Crate => put(out, at, b"<crate>"),
-        Fixed::File => put(out, at, b"<file>"),
-        Fixed::ModulePath => put(out, at, b"<mod path>"),
-        Fixed::Time => put(out, at, b"<time>"),
-        Fixed::Error => put(out, at, b"ERROR"),
-        Fixed::Warn => put(out, at, b"WARN"),
-        Fixed::Info => put(out, at, b"INFO"),
-        Fixed::Debug => put(out, at, b"DEBUG"),
-        Fixed::Trace => put(out, at, b"TRACE"),
-    }
+    let p = place_of(x);
+    let from = p.from;
+    let to = p.to;
+    let texts = TEXTS;
+    put(out, at, &texts[from..to])
 }

@@ -1,4 +1,5 @@
 // A specifier's text, measured, counted and written: three functions that agree on `bytesOf`.
+use buffer::put;
 use decimal::add_number;
 use decimal::number_len;
 use decimal::put_number;
@@ -11,16 +12,13 @@ use fixed::fixed_len;
 use fixed::put_fixed;
 use measure::Measure;
 use measure::growing::add;
-use text::buffer::put;
 ghost use mathlib.Core.Path.{_≡_};
 ghost use Prim.Native.Nat.{_+_, _<_, _≤_, _^_};
 ghost use lib.ListN.{length};
-ghost use Rattle.text.specs.Buffer.{putAt};
+ghost use Rattle.buffer.specs.Buffer.{Puts};
 ghost use Rattle.fields.specs.Wordings.{bytesOf, WordingWithin};
 ghost use Rattle.measure.specs.Measures.{grown, Small};
 
-mod decimal;
-mod file_name;
 mod fixed;
 
 // The measure of what a measures, then the text that w stands for in the record's bytes d.
@@ -55,7 +53,7 @@ pub fn wording_len(d: &[u8], w: Wording) -> usize
 pub fn put_wording(d: &[u8], w: Wording, out: &mut [u8], at: usize) -> usize
     requires { ⌜ WordingWithin (length (now d)) w ⌝ }
     requires { ⌜ at + length (bytesOf w (now d)) ≤ length (now out) ⌝ }
-    ensures { λ r. ⌜ (r ≡ at + length (bytesOf w (now (d .entry)))) × (now (out .exit) ≡ putAt (now (out .entry)) at (bytesOf w (now (d .entry)))) ⌝ }
+    ensures { λ r. ⌜ Puts (now (out .entry)) (now (out .exit)) at (bytesOf w (now (d .entry))) r ⌝ }
 {
     match w {
         Wording::Part(i, j) => put(out, at, &d[i..j]),

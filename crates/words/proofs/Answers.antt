@@ -8,9 +8,9 @@ use Rattle.words.specs.declared.LogMetadata.{LogMetadata}
 use Rattle.words.specs.declared.Parameter.{Parameter}
 use Rattle.words.specs.declared.MetadataRead.{MetadataRead}
 use Rattle.words.specs.declared.FormatRead.{FormatRead}
-use Rattle.words.specs.Trying.{Tried, fit, misfit, refused, _or-else_, tellMetadata, tellFormat}
+use Rattle.words.specs.Trying.{Tried, fit, misfit, refused, _or-else_}
+use Rattle.words.specs.Within.{tellMetadata, tellFormat, Named, Wide, MetadataWithin, FormatWithin}
 use Rattle.words.proofs.Attempts.{or-else-fit, or-else-misfit, or-else-refused}
-use Rattle.words.specs.Within.{Named, Wide, MetadataWithin, FormatWithin}
 
 -- ---- specifiers: the code's answer is o, and it tells x
 

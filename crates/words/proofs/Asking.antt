@@ -6,39 +6,40 @@ use mathlib.Core.List.{List, [], _∷_}
 use native.Mathlib.Omega.{arith}
 use lib.ListN.{length, getD}
 use borrow.Author.Tests.{lt-ltb, le-ltb, le-leb, lt-leb}
-use Rattle.text.specs.Bytes.{part, same}
-use Rattle.text.specs.Table.{Maybe, none, some, lookup}
-use Rattle.text.proofs.Parts.{part-step}
+use Rattle.buffer.specs.Bytes.{part, same}
+use Rattle.buffer.specs.Table.{Maybe, none, some, lookup}
+use Rattle.buffer.proofs.Parts.{part-step}
 use Rattle.refusals.specs.declared.Refusal.{Refusal}
 use Rattle.words.specs.declared.Alignment.{Alignment}
 use Rattle.words.specs.declared.Alignment.the-variants.{Left}
 use Rattle.words.specs.declared.Padding.{Padding}
 use Rattle.words.specs.declared.Parameter.{Parameter}
 use Rattle.words.specs.declared.FormatRead.{FormatRead}
-use Rattle.words.specs.Runs.{decimal, digit, lowered, lettersEnd, digitsEnd, touches}
-use Rattle.words.specs.Trying.{fit, misfit, refused, _or-else_, tellFormat}
-use Rattle.words.specs.Within.{Wide, FormatWithin}
+use Rattle.runs.specs.Runs.{decimal, digit, lowered, lettersEnd, digitsEnd, touches}
+use Rattle.words.specs.Trying.{fit, misfit, refused, _or-else_}
+use Rattle.words.specs.Within.{tellFormat, Wide, FormatWithin}
 use Rattle.words.specs.Words.{sense, either, sensed, levelColours, colours, styles, parameterOf, name, alignments, paddingOf, widthOf, digitsTo, aligned, byteAt, widthAt}
-use Rattle.words.proofs.Counting.{capped-fits, capped-over}
-use Rattle.words.proofs.Matching.{part-none, lookup-on, lookup-none}
+use Rattle.runs.proofs.Counting.{capped-fits, capped-over}
+use Rattle.runs.proofs.Matching.{part-none}
+use Rattle.buffer.proofs.Tables.{lookup-on, lookup-none}
 use Rattle.words.proofs.Naming.{name-sensed, one-other}
-use Rattle.words.proofs.Running.{run-end}
+use Rattle.runs.proofs.Running.{run-end}
 
 -- ---- words
 
+pub same-sense : (j : ℕ) (x y : Maybe Parameter) → x ≡ y → sensed j (sense x) ≡ sensed j (sense y)
+same-sense j x y q = ap (λ (z : Maybe Parameter). sensed j (sense z)) q
+
 -- the word at hand is in the table, or isn't: what the code answers then
-pub word-read : (from to : ℕ) (x : Maybe Parameter) (o : FormatRead) (p : Parameter) → x ≡ some p → o ≡ FormatRead.Fit to p → Wide p → from < to
-    → (tellFormat o ≡ sensed to (sense x)) × FormatWithin from to o
+pub word-read : (from to : ℕ) (x : Maybe Parameter) (p : Parameter) → x ≡ some p → Wide p → from < to
+    → (tellFormat (FormatRead.Fit to p) ≡ sensed to (sense x)) × FormatWithin from to (FormatRead.Fit to p)
 unfolding tellFormat FormatWithin sensed sense
-word-read from to x o p q r v h = (ap tellFormat r ∙ sym (ap (λ (y : Maybe Parameter). sensed to (sense y)) q), rw r (omega arith, omega arith, v))
+word-read from to x p q v h = (sym (same-sense to x (some p) q), (omega arith, omega arith, v))
 
 pub word-unread : (from to : ℕ) (x : Maybe Parameter) → x ≡ none
     → (tellFormat FormatRead.Misfit ≡ sensed to (sense x)) × FormatWithin from to FormatRead.Misfit
 unfolding tellFormat FormatWithin sensed sense
-word-unread from to x q = (sym (ap (λ (y : Maybe Parameter). sensed to (sense y)) q), tt)
-
-pub same-sense : (j : ℕ) (x y : Maybe Parameter) → x ≡ y → sensed j (sense x) ≡ sensed j (sense y)
-same-sense j x y q = ap (λ (z : Maybe Parameter). sensed j (sense z)) q
+word-unread from to x q = (sym (same-sense to x none q), tt)
 
 module _ (x y : Maybe Parameter) where
   pub either-first : (p : Parameter) → x ≡ some p → either x y ≡ some p

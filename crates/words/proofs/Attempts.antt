@@ -5,9 +5,9 @@ use mathlib.Core.Bool.{true, false}
 use mathlib.Core.List.{List}
 use native.Mathlib.Omega.{arith}
 use Rattle.refusals.specs.declared.Refusal.{Refusal}
-use Rattle.words.specs.Runs.{stands}
+use Rattle.runs.specs.Runs.{stands}
 use Rattle.words.specs.Trying.{Tried, fit, misfit, refused, _or-else_, _then_, while-it-fits, repeated, further, listed}
-use Rattle.words.proofs.Running.{stands-before}
+use Rattle.runs.proofs.Running.{stands-before}
 
 -- ---- one attempt or another
 

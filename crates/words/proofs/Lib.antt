@@ -2,7 +2,4 @@
 pub mod Answers
 pub mod Asking
 pub mod Attempts
-pub mod Counting
-pub mod Matching
 pub mod Naming
-pub mod Running

@@ -6,18 +6,19 @@ use mathlib.Core.List.{List, [], _∷_}
 use native.Mathlib.Omega.{arith}
 use lib.ListN.{length, getD, replicate}
 use borrow.Author.Tests.{ne-eqb, le-leb, lt-leb}
-use Rattle.text.specs.Bytes.{part, same}
-use Rattle.text.specs.Table.{Maybe, none, lookup}
+use Rattle.buffer.specs.Bytes.{part, same}
+use Rattle.buffer.specs.Table.{Maybe, none, lookup}
 use Rattle.refusals.specs.declared.Refusal.{Refusal}
 use Rattle.words.specs.declared.LogMetadata.{LogMetadata}
 use Rattle.words.specs.declared.LogMetadata.the-variants.{FileName}
 use Rattle.words.specs.declared.MetadataRead.{MetadataRead}
-use Rattle.words.specs.Runs.{lettersEnd, touches}
-use Rattle.words.specs.Trying.{fit, misfit, refused, tellMetadata}
-use Rattle.words.specs.Within.{Named, MetadataWithin}
-use Rattle.words.specs.Words.{Sense, stands-for, nothing, not-allowed, sensed, nameTo, name, specifiers, specifierOf, orRepeatedF, repeatedF, fileName}
-use Rattle.words.proofs.Matching.{part-none, same-lengths, lookup-on, lookup-none}
-use Rattle.text.proofs.Parts.{part-step}
+use Rattle.runs.specs.Runs.{lettersEnd, touches}
+use Rattle.words.specs.Trying.{fit, misfit, refused}
+use Rattle.words.specs.Within.{tellMetadata, Named, MetadataWithin}
+use Rattle.words.specs.Words.{Sense, stands-for, nothing, not-allowed, sensed, nameTo, name, specifiers, specifierOf, orRepeatedF, repeatedF, countOfF}
+use Rattle.runs.proofs.Matching.{part-none, same-lengths}
+use Rattle.buffer.proofs.Tables.{lookup-on, lookup-none}
+use Rattle.buffer.proofs.Parts.{part-step}
 
 -- ---- the run tried as a name ends at j
 
@@ -45,15 +46,15 @@ module _ {A : Type 0} (j : ℕ) (s : Sense A) where
 
 -- ---- `f` repeated n times
 
-allowed : (n : ℕ) → 1 ≤ n → n ≤ 255 → fileName n ≡ stands-for (FileName n)
-unfolding fileName
+allowed : (n : ℕ) → 1 ≤ n → n ≤ 255 → countOfF n ≡ stands-for (FileName n)
+unfolding countOfF
 allowed zero g k = absurd (let z : ⊥ = omega arith in z)
-allowed (suc n) g k = rw (le-leb (suc n) 255 k, fileName)
+allowed (suc n) g k = rw (le-leb (suc n) 255 k, countOfF)
 
-too-many : (n : ℕ) → 255 < n → fileName n ≡ not-allowed Refusal.TooManyF
-unfolding fileName
+too-many : (n : ℕ) → 255 < n → countOfF n ≡ not-allowed Refusal.TooManyF
+unfolding countOfF
 too-many zero g = absurd (let z : ⊥ = omega arith in z)
-too-many (suc n) g = rw (lt-leb (suc n) 255 g, fileName)
+too-many (suc n) g = rw (lt-leb (suc n) 255 g, countOfF)
 
 -- ---- specifiers of any number of letters but one
 
@@ -78,9 +79,9 @@ module _ (w : List ℕ) (n : ℕ) (l : length w ≡ n) (h : n ≡ 1 → ⊥) whe
   unfolding repeatedF
   other-name b = longer ∙ rw (l, b, repeatedF)
 
-  repeated-f : same (replicate n 0x66) w ≡ true → specifierOf w ≡ fileName n
+  repeated-f : same (replicate n 0x66) w ≡ true → specifierOf w ≡ countOfF n
   unfolding repeatedF
-  repeated-f b = longer ∙ rw (l, b, repeatedF) (ap fileName l)
+  repeated-f b = longer ∙ rw (l, b, repeatedF) (ap countOfF l)
 
   pub file-name : same (replicate n 0x66) w ≡ true → 1 ≤ n → n ≤ 255 → specifierOf w ≡ stands-for (FileName n)
   file-name b g k = repeated-f b ∙ allowed n g k
@@ -89,7 +90,7 @@ module _ (w : List ℕ) (n : ℕ) (l : length w ≡ n) (h : n ≡ 1 → ⊥) whe
   too-many-f b g = repeated-f b ∙ too-many n g
 
 pub no-name : (j : ℕ) (t : List ℕ) (i e : ℕ) → e ≤ i → sensed j (specifierOf (part i e t)) ≡ misfit
-unfolding specifierOf orRepeatedF repeatedF fileName lookup same sensed
+unfolding specifierOf orRepeatedF repeatedF countOfF lookup same sensed
 no-name j t i e h = ap (λ (w : List ℕ). sensed j (specifierOf w)) (part-none t i e h)
 
 -- ---- specifiers of one letter

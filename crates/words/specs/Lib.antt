@@ -1,4 +1,4 @@
-pub mod Runs
 pub mod Trying
 pub mod Within
 pub mod Words
+pub mod Computing

@@ -3,11 +3,7 @@ use Prim.Native.Nat.{ℕ, zero, suc, _+_, _-_}
 use mathlib.Core.Bool.{true, false}
 use mathlib.Core.List.{List}
 use Rattle.refusals.specs.declared.Refusal.{Refusal}
-use Rattle.words.specs.declared.LogMetadata.{LogMetadata}
-use Rattle.words.specs.declared.Parameter.{Parameter}
-use Rattle.words.specs.declared.MetadataRead.{MetadataRead}
-use Rattle.words.specs.declared.FormatRead.{FormatRead}
-use Rattle.words.specs.Runs.{stands}
+use Rattle.runs.specs.Runs.{stands}
 
 -- what is tried fits (what it gives, and the place after it), doesn't fit, or has the template refused
 pub data Tried (A : Type 0) : Type 0 where
@@ -52,14 +48,3 @@ further separator t e item (suc n) i s =
 -- "items split by" a byte: one, and what follows it
 unfoldable pub listed : {S : Type 0} → ℕ → List ℕ → ℕ → (ℕ → S → Tried S) → ℕ → S → Tried S
 listed separator t e item i s = item i s then λ s′ j. further separator t e item (e - i) j s′
-
--- what each case of the code's answers says
-unfoldable pub tellMetadata : MetadataRead → Tried LogMetadata
-tellMetadata (MetadataRead.Fit j m) = fit m j
-tellMetadata MetadataRead.Misfit = misfit
-tellMetadata (MetadataRead.Refused r) = refused r
-
-unfoldable pub tellFormat : FormatRead → Tried Parameter
-tellFormat (FormatRead.Fit j p) = fit p j
-tellFormat FormatRead.Misfit = misfit
-tellFormat (FormatRead.Refused r) = refused r

@@ -5,8 +5,8 @@ use mathlib.Core.Bool.{Bool, true, false}
 use mathlib.Core.List.{List, [], _∷_}
 use lib.Dec.{eqb, leb, ltb}
 use lib.ListN.{length, getD, replicate}
-use Rattle.text.specs.Bytes.{bytes, part, same}
-use Rattle.text.specs.Table.{Maybe, none, some, Entry, _means_, lookup}
+use Rattle.buffer.specs.Bytes.{byte, bytes, part, same}
+use Rattle.buffer.specs.Table.{Maybe, none, some, Entry, _means_, lookup}
 use Rattle.refusals.specs.declared.Refusal.{Refusal}
 use Rattle.words.specs.declared.LogMetadata.{LogMetadata}
 use Rattle.words.specs.declared.LogMetadata.the-variants.{CrateName, FileName, FilePath, LineNumber, Log, LogLevel, ModulePath, Timestamp}
@@ -21,7 +21,7 @@ use Rattle.words.specs.declared.Padding.{Padding}
 use Rattle.words.specs.declared.Padding.the-variants.{Space, Zero}
 use Rattle.words.specs.declared.Parameter.{Parameter}
 use Rattle.words.specs.Trying.{Tried, fit, misfit, refused, _or-else_}
-use Rattle.words.specs.Runs.{lowered, decimal, lettersEnd, digitsEnd, touches}
+use Rattle.runs.specs.Runs.{lowered, decimal, lettersEnd, digitsEnd, touches}
 
 -- ---- what a word stands for
 
@@ -31,6 +31,7 @@ pub data Sense (A : Type 0) : Type 0 where
   nothing : Sense A
   not-allowed : Refusal → Sense A
 
+-- what a table says of a word
 unfoldable pub sense : {A : Type 0} → Maybe A → Sense A
 sense none = nothing
 sense (some a) = stands-for a
@@ -48,17 +49,20 @@ specifiers =
     ∷ []
 
 -- `f` repeated; refusal 8: "a specifier name of more than 255 `f`"
-unfoldable pub fileName : ℕ → Sense LogMetadata
-fileName zero = nothing
-fileName (suc n) = elim (leb (suc n) 255) [ true ↦ stands-for (FileName (suc n)) | false ↦ not-allowed Refusal.TooManyF ]
+unfoldable pub countOfF : ℕ → Sense LogMetadata
+countOfF zero = nothing
+countOfF (suc n) = elim (leb (suc n) 255) [ true ↦ stands-for (FileName (suc n)) | false ↦ not-allowed Refusal.TooManyF ]
 
+-- "`f` repeated": a word of nothing but `f`
 unfoldable pub repeatedF : List ℕ → Sense LogMetadata
-repeatedF w = elim (same (replicate (length w) 0x66) w) [ true ↦ fileName (length w) | false ↦ nothing ]
+repeatedF w = elim (same (replicate (length w) (byte "f")) w) [ true ↦ countOfF (length w) | false ↦ nothing ]
 
+-- a word that the table of specifiers has, else `f` repeated
 unfoldable pub orRepeatedF : List ℕ → Maybe LogMetadata → Sense LogMetadata
 orRepeatedF w none = repeatedF w
 orRepeatedF w (some m) = stands-for m
 
+-- the specifier that a word names
 unfoldable pub specifierOf : List ℕ → Sense LogMetadata
 specifierOf w = orRepeatedF w (lookup specifiers w)
 
@@ -69,6 +73,7 @@ levelColours =
     ∷ "werror" means Parameter.Color LogColor.WarnError
     ∷ []
 
+-- a colour word's parameter
 abbrev pub colour : Color → Parameter
 colour c = Parameter.Color (LogColor.Color c)
 
@@ -101,11 +106,13 @@ unfoldable pub either : {A : Type 0} → Maybe A → Maybe A → Maybe A
 either none y = y
 either (some a) y = some a
 
+-- the parameter that a word names: a colour of levels, a colour, a style
 unfoldable pub parameterOf : List ℕ → Sense Parameter
 parameterOf w = sense (either (lookup levelColours w) (either (lookup colours (lowered w)) (lookup styles w)))
 
 -- ---- words at a place
 
+-- a word that ends at j, tried
 unfoldable pub sensed : {A : Type 0} → ℕ → Sense A → Tried A
 sensed j (stands-for a) = fit a j
 sensed j nothing = misfit
@@ -116,6 +123,7 @@ sensed j (not-allowed r) = refused r
 unfoldable pub nameTo : {A : Type 0} → (List ℕ → Sense A) → List ℕ → ℕ → ℕ → ℕ → Tried A
 nameTo senseOf t i e j = elim (touches t i j e) [ true ↦ refused Refusal.NameTouchesLetter | false ↦ sensed j (senseOf (part i j t)) ]
 
+-- the whole letter run at i, tried as a name
 unfoldable pub name : {A : Type 0} → (List ℕ → Sense A) → List ℕ → ℕ → ℕ → Tried A
 name senseOf t i e = nameTo senseOf t i e (lettersEnd t i e)
 
@@ -126,7 +134,7 @@ specifierAt t i e = name specifierOf t i e
 -- "Digits starting with 0 mean zero padding"
 unfoldable pub paddingOf : List ℕ → Padding
 paddingOf [] = Space
-paddingOf (b ∷ w) = elim (eqb b 0x30) [ true ↦ Zero | false ↦ Space ]
+paddingOf (b ∷ w) = elim (eqb b (byte "0")) [ true ↦ Zero | false ↦ Space ]
 
 -- refusal 7: "a width above 512 is read, however many digits"
 unfoldable pub widthOf : Alignment → List ℕ → ℕ → Tried Parameter
@@ -157,6 +165,7 @@ aligned t i e (some a) = digitsTo a t (i + 1) (digitsEnd t (i + 1) e)
 unfoldable pub byteAt : List ℕ → ℕ → ℕ → List ℕ
 byteAt t i e = elim (ltb i e) [ true ↦ getD t i 0 ∷ [] | false ↦ [] ]
 
+-- a width tried at i
 unfoldable pub widthAt : List ℕ → ℕ → ℕ → Tried Parameter
 widthAt t i e = aligned t i e (lookup alignments (byteAt t i e))
 

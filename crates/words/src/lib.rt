@@ -1,10 +1,7 @@
 // The words of a template: names and numbers, under the crate's names.
 use refusals::Refusal;
 
-pub mod numbers;
 pub mod parser;
-pub mod runs;
-pub mod spelling;
 
 // What a specifier shows.
 pub enum LogMetadata {

@@ -8,24 +8,23 @@ use super::MetadataRead;
 use super::Padding;
 use super::Parameter;
 use super::Style;
-use super::numbers::width;
-use super::runs::digits_end;
-use super::runs::letters_end;
-use super::runs::run_touches;
-use super::spelling::is_repeated_f;
-use super::spelling::is_word;
-use super::spelling::is_word_in_any_case;
 use refusals::Refusal;
+use runs::digits_end;
+use runs::letters_end;
+use runs::numbers::width;
+use runs::run_touches;
+use spelling::is_repeated_f;
+use spelling::word_index;
 ghost use mathlib.Core.Path.{_≡_};
 ghost use mathlib.Core.List.{[], _∷_};
 ghost use Prim.Native.Nat.{_+_, _-_, _≤_, _<_};
-ghost use lib.ListN.{length, getD, drop};
-ghost use Rattle.text.specs.Bytes.{part};
-ghost use Rattle.text.specs.Table.{lookup};
-ghost use Rattle.words.specs.Runs.{lowered, digitsEnd};
-ghost use Rattle.words.specs.Trying.{tellMetadata, tellFormat};
-ghost use Rattle.words.specs.Within.{MetadataWithin, FormatWithin};
-ghost use Rattle.words.specs.Words.{specifierOf, parameterOf, sense, either, levelColours, colours, styles, sensed, name, specifierAt, paddingOf, digitsTo, widthAt, parameterAt};
+ghost use lib.ListN.{length, getD};
+ghost use Rattle.buffer.specs.Bytes.{part};
+ghost use Rattle.buffer.specs.Table.{some, lookup};
+ghost use Rattle.runs.specs.Runs.{lowered, digitsEnd};
+ghost use Rattle.spelling.specs.Tables.{valueAt};
+ghost use Rattle.words.specs.Within.{tellMetadata, tellFormat, MetadataWithin, FormatWithin};
+ghost use Rattle.words.specs.Words.{specifierOf, parameterOf, sense, either, levelColours, colour, colours, styles, sensed, name, specifierAt, paddingOf, digitsTo, widthAt, parameterAt};
 
 // The specifier at `from`: the whole run of letters there.
 pub fn parse_metadata(t: &[u8], from: usize, to: usize) -> MetadataRead
@@ -88,25 +87,22 @@ fn parse_color(t: &[u8], from: usize, to: usize) -> FormatRead
     ensures { λ r. ⌜ tellFormat r ≡ sensed to (sense (either (lookup levelColours (part from to (now (t .entry)))) (lookup colours (lowered (part from to (now (t .entry))))))) ⌝ }
     ensures within { λ r. ⌜ FormatWithin from to r ⌝ }
 {
-    if is_word(b"severity", t, from, to) {
-        return log_color(LogColor::SeverityLevel, to);
+    let i = word_index(&[8, 6], b"severitywerror", t, from, to, false);
+    if 2 <= i {
+        return color_from_str(t, from, to);
     }
-    if is_word(b"werror", t, from, to) {
-        return log_color(LogColor::WarnError, to);
-    }
-    color_from_str(t, from, to)
+    FormatRead::Fit(to, Parameter::Color(level_color_at(i)))
 }
 
-fn log_color(c: LogColor, to: usize) -> FormatRead
-    ensures { λ r. ⌜ r ≡ FormatRead.Fit to (Parameter.Color c) ⌝ }
+// The colour of a level's word by its index. The words' indices and what they stand for are taken apart: a `match` that makes whole answers is proved slowly.
+fn level_color_at(i: usize) -> LogColor
+    requires { ⌜ i < 2 ⌝ }
+    ensures { λ r. ⌜ valueAt levelColours i ≡ some (Parameter.Color r) ⌝ }
 {
-    FormatRead::Fit(to, Parameter::Color(c))
-}
-
-fn color(c: Color, to: usize) -> FormatRead
-    ensures { λ r. ⌜ r ≡ FormatRead.Fit to (Parameter.Color (LogColor.Color c)) ⌝ }
-{
-    log_color(LogColor::Color(c), to)
+    match i {
+        0 => LogColor::SeverityLevel,
+        _ => LogColor::WarnError,
+    }
 }
 
 // The crate's `colored::Color::from_str`, less the colours that its names cannot say: a name is letters only.
@@ -115,43 +111,35 @@ fn color_from_str(t: &[u8], from: usize, to: usize) -> FormatRead
     ensures { λ r. ⌜ tellFormat r ≡ sensed to (sense (lookup colours (lowered (part from to (now (t .entry)))))) ⌝ }
     ensures within { λ r. ⌜ FormatWithin from to r ⌝ }
 {
-    if is_word_in_any_case(b"black", t, from, to) {
-        return color(Color::Black, to);
+    let i = word_index(
+        &[5, 3, 5, 6, 4, 7, 6, 4, 5],
+        b"blackredgreenyellowbluemagentapurplecyanwhite",
+        t,
+        from,
+        to,
+        true,
+    );
+    if 9 <= i {
+        return FormatRead::Misfit;
     }
-    if is_word_in_any_case(b"red", t, from, to) {
-        return color(Color::Red, to);
-    }
-    if is_word_in_any_case(b"green", t, from, to) {
-        return color(Color::Green, to);
-    }
-    if is_word_in_any_case(b"yellow", t, from, to) {
-        return color(Color::Yellow, to);
-    }
-    later_color(t, from, to)
+    FormatRead::Fit(to, Parameter::Color(LogColor::Color(color_at(i))))
 }
 
-// The colours after the fourth.
-fn later_color(t: &[u8], from: usize, to: usize) -> FormatRead
-    requires { ⌜ (from < to) × (to ≤ length (now t)) ⌝ }
-    ensures { λ r. ⌜ tellFormat r ≡ sensed to (sense (lookup (drop 4 colours) (lowered (part from to (now (t .entry)))))) ⌝ }
-    ensures within { λ r. ⌜ FormatWithin from to r ⌝ }
+fn color_at(i: usize) -> Color
+    requires { ⌜ i < 9 ⌝ }
+    ensures { λ r. ⌜ valueAt colours i ≡ some (colour r) ⌝ }
 {
-    if is_word_in_any_case(b"blue", t, from, to) {
-        return color(Color::Blue, to);
+    match i {
+        0 => Color::Black,
+        1 => Color::Red,
+        2 => Color::Green,
+        3 => Color::Yellow,
+        4 => Color::Blue,
+        5 => Color::Magenta,
+        6 => Color::Magenta,
+        7 => Color::Cyan,
+        _ => Color::White,
     }
-    if is_word_in_any_case(b"magenta", t, from, to) {
-        return color(Color::Magenta, to);
-    }
-    if is_word_in_any_case(b"purple", t, from, to) {
-        return color(Color::Magenta, to);
-    }
-    if is_word_in_any_case(b"cyan", t, from, to) {
-        return color(Color::Cyan, to);
-    }
-    if is_word_in_any_case(b"white", t, from, to) {
-        return color(Color::White, to);
-    }
-    FormatRead::Misfit
 }
 
 // The style that the letters t[from..to] ask for.
@@ -160,28 +148,31 @@ fn parse_style(t: &[u8], from: usize, to: usize) -> FormatRead
     ensures { λ r. ⌜ tellFormat r ≡ sensed to (sense (lookup styles (part from to (now (t .entry))))) ⌝ }
     ensures within { λ r. ⌜ FormatWithin from to r ⌝ }
 {
-    if is_word(b"bold", t, from, to) {
-        return style(Style::Bold, to);
+    let i = word_index(
+        &[4, 6, 9, 6, 6],
+        b"bolditalicunderlinestrikedimmed",
+        t,
+        from,
+        to,
+        false,
+    );
+    if 5 <= i {
+        return FormatRead::Misfit;
     }
-    if is_word(b"italic", t, from, to) {
-        return style(Style::Italic, to);
-    }
-    if is_word(b"underline", t, from, to) {
-        return style(Style::Underline, to);
-    }
-    if is_word(b"strike", t, from, to) {
-        return style(Style::Strike, to);
-    }
-    if is_word(b"dimmed", t, from, to) {
-        return style(Style::Dimmed, to);
-    }
-    FormatRead::Misfit
+    FormatRead::Fit(to, Parameter::Style(style_at(i)))
 }
 
-fn style(s: Style, to: usize) -> FormatRead
-    ensures { λ r. ⌜ r ≡ FormatRead.Fit to (Parameter.Style s) ⌝ }
+fn style_at(i: usize) -> Style
+    requires { ⌜ i < 5 ⌝ }
+    ensures { λ r. ⌜ valueAt styles i ≡ some (Parameter.Style r) ⌝ }
 {
-    FormatRead::Fit(to, Parameter::Style(s))
+    match i {
+        0 => Style::Bold,
+        1 => Style::Italic,
+        2 => Style::Underline,
+        3 => Style::Strike,
+        _ => Style::Dimmed,
+    }
 }
 
 fn padding(b: u8) -> Padding

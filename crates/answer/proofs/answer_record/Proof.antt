@@ -2,10 +2,13 @@
 use mathlib.Core.Path.{sym, ap, subst, _∙_}
 use native.Mathlib.Omega.{arith}
 use Rattle.segments.specs.Pool.{chainAt}
-use Rattle.record.specs.Layout.{laidBy, laidOut}
-use Rattle.record.specs.Told.{tellChecked}
-use Rattle.answer.specs.Rooms.{Packable, Passed}
-use Rattle.answer.proofs.Answering.{answer-passed, buffer-passed, answer-refused, buffer-refused, packable-in, packable-refused, refusal-unsized}
+use Rattle.record.specs.Layout.{laidOut}
+use Rattle.record.specs.Placed.{laidBy}
+use Rattle.checks.specs.Told.{tellChecked}
+use Rattle.answer.specs.Rooms.{Accepted}
+use Rattle.packing.specs.Packing.{Packable}
+use Rattle.answer.proofs.Answering.{answer-passed, buffer-passed, answer-refused, buffer-refused, refusal-unsized}
+use Rattle.packing.proofs.Rooms.{packable-in, packable-refused}
 use Rattle.answer.proofs.Counted.{line-counted}
 use borrow.Author.Needs.{needs}
 use Rattle.answer.proofs.answer_record.Statement.{statement}
@@ -48,7 +51,7 @@ returns c =
     let ch = chainAt (p .args .cells .now) (p .args .n) in
     let none-of = sym (c .before .before .before .before .before .before .before .check-record .ensures) ∙ ap tellChecked (c .before .before .before .before .before .enum-told .given .1) in
     let k = c .before .before .before .put-line in
-    let h : Passed (p .args .cells .now) (p .args .t .now) (p .args .d .now) (p .args .n) (q .result) = record { pool = p .pre .pool; read = p .pre .read; template = p .pre .template; places = q .ensures .1; passes = none-of } in
+    let h : Accepted (p .args .cells .now) (p .args .t .now) (p .args .d .now) (p .args .n) (q .result) = record { pool = p .pre .pool; read = p .pre .read; template = p .pre .template; places = q .ensures .1; passes = none-of } in
     let small = line-counted (p .args .s) (p .args .cells .now) (p .args .t .now) (p .args .d .now) (p .args .n) (q .result) h in (
       answer-passed (p .args .s) (p .args .t .now) ch l (laidOut (p .args .d .now)) (q .ensures .0) (p .args .room) (k .result) (c .answer-in .result) none-of (k .ensures .0) (c .answer-in .ensures),
       (

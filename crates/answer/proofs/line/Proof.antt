@@ -5,7 +5,8 @@ use Rattle.refusals.specs.declared.Refusal.{Refusal}
 use Rattle.colour.specs.declared.Settings.{Settings}
 use Rattle.record.specs.Layout.{laidOut}
 use Rattle.answer.specs.Answers.{outcome, answerOf, bufferAfter}
-use Rattle.answer.proofs.Answering.{unknown-bit, wrong-size, is-call, packable-refused}
+use Rattle.answer.proofs.Answering.{unknown-bit, wrong-size, is-call}
+use Rattle.packing.proofs.Rooms.{packable-refused}
 use borrow.Author.Needs.{needs}
 use Rattle.answer.proofs.line.Statement.{statement}
 use Rattle.answer.proofs.line.Tie as tie

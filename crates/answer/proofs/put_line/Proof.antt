@@ -1,5 +1,5 @@
 -- `answer::put_line` meets its contract. Assumes nothing.
-use Rattle.record.specs.Layout.{laidBy}
+use Rattle.record.specs.Placed.{laidBy}
 use Rattle.segments.specs.Pool.{chainAt}
 use Rattle.answer.proofs.Answering.{line-print, line-level}
 use borrow.Author.Needs.{needs}

@@ -1,8 +1,8 @@
 -- `answer::put_part` meets its contract. Assumes nothing.
 use mathlib.Core.Path.{sym, _∙_}
 use native.Mathlib.Omega.{arith}
-use Rattle.text.specs.Bytes.{part}
-use Rattle.text.proofs.Parts.{part-length}
+use Rattle.buffer.specs.Bytes.{part}
+use Rattle.buffer.proofs.Parts.{part-length}
 use Rattle.line.proofs.Placing.{written-short, written-whole}
 use borrow.Author.Needs.{needs}
 use Rattle.answer.proofs.put_part.Statement.{statement}

@@ -2,7 +2,7 @@
 use mathlib.Core.Path.{refl}
 use native.Mathlib.Omega.{arith}
 use mathlib.Core.List.{[], _∷_}
-use Rattle.line.specs.Places.{placesOf}
+use Rattle.leaves.specs.Places.{placesOf}
 use Rattle.answer.proofs.Answering.{writable, record-by}
 use borrow.Author.Needs.{needs}
 use Rattle.answer.proofs.put_segments.Statement.{statement}

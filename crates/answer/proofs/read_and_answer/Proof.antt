@@ -1,11 +1,12 @@
 -- `answer::read_and_answer` meets its contract. Assumes nothing.
 use mathlib.Core.Path.{sym, ap, subst, _∙_}
 use Rattle.template.specs.declared.Parsed.{Parsed}
-use Rattle.template.specs.Told.{tellParsed, ParsedKeeps}
+use Rattle.template.specs.Parsing.{tellParsed, ParsedKeeps}
 use lib.ListN.{length}
 use Rattle.record.specs.Layout.{laidOut}
 use Rattle.answer.specs.Answers.{answerOf, bufferAfter}
-use Rattle.answer.proofs.Answering.{read-short, read-outcome, unread-outcome, packable-refused}
+use Rattle.answer.proofs.Answering.{read-short, read-outcome, unread-outcome}
+use Rattle.packing.proofs.Rooms.{packable-refused}
 use Rattle.answer.proofs.Unsized.{template-unsized}
 use borrow.Author.Needs.{needs}
 use Rattle.answer.proofs.read_and_answer.Statement.{statement}

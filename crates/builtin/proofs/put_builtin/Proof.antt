@@ -3,8 +3,8 @@ use borrow.Author.Needs.{needs}
 use native.Mathlib.Omega.{arith}
 use mathlib.Core.Path.{ap, _∙_}
 use lib.ListN.{length}
-use Rattle.builtin.specs.Written.{written}
-use Rattle.builtin.proofs.Choosing.{row-below, chosen, chosen-for-host}
+use Rattle.buffer.specs.Buffer.{written}
+use Rattle.builtin.proofs.Choosing.{row-below, row-plain, row-for-host}
 use Rattle.builtin.proofs.put_builtin.Statement.{statement}
 use Rattle.builtin.proofs.put_builtin.Tie as tie
 
@@ -24,7 +24,7 @@ returns c =
     let p = c .before .before .before .before .before .before .before .args in
     let put = c .before .before .put-row-for-host in
     let k = c .before .before .before .before .before .row-of in
-    let e = chosen-for-host (k .result) (p .style) (p .location) (p .timestamp) (p .host) (k .ensures) (c .before .before .before .before .if1 .taken) in
+    let e = row-for-host (k .result) (p .style) (p .location) (p .timestamp) (p .host) (k .ensures) (c .before .before .before .before .if1 .taken) in
     (put .ensures .0 ∙ ap length e, put .ensures .1 ∙ ap (written (p .out .now)) e)
 
 put-row-requires : tie.Need-put-row-requires
@@ -40,7 +40,7 @@ returns-2 c =
     let p = c .before .before .before .before .before .before .before .args in
     let put = c .before .before .put-row in
     let k = c .before .before .before .before .before .row-of in
-    let e = chosen (k .result) (p .style) (p .location) (p .timestamp) (p .host) (k .ensures) (c .before .before .before .before .if1 .left) in
+    let e = row-plain (k .result) (p .style) (p .location) (p .timestamp) (p .host) (k .ensures) (c .before .before .before .before .if1 .left) in
     (put .ensures .0 ∙ ap length e, put .ensures .1 ∙ ap (written (p .out .now)) e)
 
 pub put-builtin-spec : {M : Type 1} → statement M

@@ -5,8 +5,8 @@ use Prim.Native.Nat.{ℕ, _+_}
 use mathlib.Core.Path.{_≡_, sym, ap, _∙_}
 use mathlib.Core.List.{List}
 use lib.ListN.{length, getD}
-use Rattle.text.specs.Bytes.{part}
-use Rattle.text.specs.Buffer.{putAt}
+use Rattle.buffer.specs.Bytes.{part}
+use Rattle.buffer.specs.Buffer.{putAt}
 use Rattle.builtin.specs.Rows.{rowText}
 use native.Mathlib.Nat.{zero-add}
 use Rattle.builtin.proofs.Fitting.{written-fits, written-not}

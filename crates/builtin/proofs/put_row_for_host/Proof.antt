@@ -5,8 +5,8 @@ use Prim.Native.Nat.{_+_, _≤_}
 use mathlib.Core.Path.{_≡_, sym, _∙_}
 use mathlib.Core.List.{_++_}
 use lib.ListN.{length, length-append}
-use Rattle.text.specs.Bytes.{bytes}
-use Rattle.text.proofs.Writing.{join}
+use Rattle.buffer.specs.Bytes.{bytes}
+use Rattle.buffer.proofs.Writing.{join}
 use Rattle.builtin.specs.Rows.{rowText}
 use Rattle.builtin.proofs.Fitting.{written-fits, written-not}
 use Rattle.builtin.proofs.put_row_for_host.Statement.{statement}

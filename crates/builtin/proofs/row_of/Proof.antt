@@ -3,7 +3,7 @@ use borrow.Author.Needs.{needs}
 use native.Mathlib.Omega.{arith}
 use mathlib.Core.Path.{_≡_, sym, ap, _∙_}
 use Rattle.builtin.specs.declared.Style.{Style}
-use Rattle.builtin.specs.Rows.{fromTwo, rowOf}
+use Rattle.builtin.specs.Rows.{fromTwo, templateRow}
 use Rattle.builtin.proofs.row_of.Statement.{statement}
 use Rattle.builtin.proofs.row_of.Tie as tie
 
@@ -22,14 +22,14 @@ from-two-requires-2 c κs = search needs
 returns : tie.Need-returns
 returns c =
     let p = c .before .before .before .args in
-    let e : fromTwo (p .location) (p .timestamp) ≡ rowOf (p .style) (p .location) (p .timestamp) =
-    ap (λ (s : Style). rowOf s (p .location) (p .timestamp)) (sym (c .before .enum-told .given .1)) in
+    let e : fromTwo (p .location) (p .timestamp) ≡ templateRow (p .style) (p .location) (p .timestamp) =
+    ap (λ (s : Style). templateRow s (p .location) (p .timestamp)) (sym (c .before .enum-told .given .1)) in
     omega (arith, e, c .from-two .ensures)
 
 returns-2 : tie.Need-returns-2
 returns-2 c =
     let p = c .before .before .before .args in
-    c .from-two2 .ensures ∙ ap (λ (s : Style). rowOf s (p .location) (p .timestamp)) (sym (c .before .enum-told2 .given .1))
+    c .from-two2 .ensures ∙ ap (λ (s : Style). templateRow s (p .location) (p .timestamp)) (sym (c .before .enum-told2 .given .1))
 
 pub row-of-spec : {M : Type 1} → statement M
 row-of-spec =

@@ -17,15 +17,12 @@ enum-known-a-3 : tie.Need-enum-known-a-3
 enum-known-a-3 c = search needs
 
 returns : tie.Need-returns
-unfolding asking
 returns c = sym (ap (asking (c .before .before .before .before .args .f)) (c .before .a .given .1))
 
 returns-2 : tie.Need-returns-2
-unfolding asking
 returns-2 c = rw (c .with-style .ensures) (sym (ap (asking (c .before .before .before .before .before .args .f)) (c .before .before .a2 .given .1)))
 
 returns-3 : tie.Need-returns-3
-unfolding asking
 returns-3 c = sym (ap (asking (c .before .before .before .before .args .f)) (c .before .a3 .given .1))
 
 pub asking-for-spec : {M : Type 1} → statement M

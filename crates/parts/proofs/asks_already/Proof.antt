@@ -23,15 +23,12 @@ has-width-requires : tie.Need-has-width-requires
 has-width-requires c κs = search needs
 
 returns : tie.Need-returns
-unfolding asks
 returns c = c .has-colour .ensures ∙ sym (ap (asks (c .before .before .before .args .f)) (c .before .enum-told .given .1))
 
 returns-2 : tie.Need-returns-2
-unfolding asks
 returns-2 c = c .has-style .ensures ∙ sym (ap (asks (c .before .before .before .before .before .args .f)) (c .before .before .before .a .given .1))
 
 returns-3 : tie.Need-returns-3
-unfolding asks
 returns-3 c = c .has-width .ensures ∙ sym (ap (asks (c .before .before .before .args .f)) (c .before .enum-told2 .given .1))
 
 pub asks-already-spec : {M : Type 1} → statement M

@@ -20,23 +20,18 @@ enum-told-5 : tie.Need-enum-told-5
 enum-told-5 c = search needs
 
 returns : tie.Need-returns
-unfolding withStyle
 returns c = sym (ap (withStyle (c .before .before .args .s)) (c .enum-told .given .1))
 
 returns-2 : tie.Need-returns-2
-unfolding withStyle
 returns-2 c = sym (ap (withStyle (c .before .before .args .s)) (c .enum-told2 .given .1))
 
 returns-3 : tie.Need-returns-3
-unfolding withStyle
 returns-3 c = sym (ap (withStyle (c .before .before .args .s)) (c .enum-told3 .given .1))
 
 returns-4 : tie.Need-returns-4
-unfolding withStyle
 returns-4 c = sym (ap (withStyle (c .before .before .args .s)) (c .enum-told4 .given .1))
 
 returns-5 : tie.Need-returns-5
-unfolding withStyle
 returns-5 c = sym (ap (withStyle (c .before .before .args .s)) (c .enum-told5 .given .1))
 
 pub with-style-spec : {M : Type 1} → statement M

@@ -1,85 +1,39 @@
 -- `pralakuon::write_records` is safe and ends: each turn stands at a record of the sheet. Assumes nothing.
+use borrow.Author.Needs.{needs}
+use Rattle.session.specs.Walking.{Standing}
+use Rattle.session.proofs.Places.{next-lies, fewer}
 use Rattle.pralakuon.proofs.write_records.Statement.{statement}
 use Rattle.pralakuon.proofs.write_records.Tie as tie
-use borrow.Author.Needs.{needs}
-use native.Mathlib.Omega.{arith}
-use Rattle.session.specs.Walking.{Standing}
-use Rattle.session.proofs.Places.{some-body, headed-at, begins, stands-then, next-lies}
 
 abbrev Inv-loop : tie.InvT-loop
-Inv-loop d cells n count left₀ i₀ j₀ left i j = Standing d left i j
+Inv-loop d cells n w₀ w = Standing d w
 
 abbrev μ-loop : tie.MeasureT-loop
-μ-loop d cells n count left₀ i₀ j₀ left i j = left
+μ-loop d cells n w₀ w = w .left
 
-body-count-requires : tie.Need-body-count-requires Inv-loop μ-loop
-body-count-requires c κs =
-    let h = headed-at (c .before .before .args .d .now) (c .before .before .pre .sheet) in
-    omega (arith, h .long)
-
-sub-left : tie.Need-sub-left Inv-loop μ-loop
-sub-left c =
-    omega (arith, some-body (c .before .before .before .args .d .now) (c .before .before .before .pre .sheet), c .body-count .ensures .0)
-
-mul-j : tie.Need-mul-j Inv-loop μ-loop
-mul-j c = omega (arith, c .body-count .ensures .1)
-
-add-j : tie.Need-add-j Inv-loop μ-loop
-add-j c = omega (arith, c .body-count .ensures .1)
-
-body-length-requires : tie.Need-body-length-requires Inv-loop μ-loop
-body-length-requires c κs =
-    let h = headed-at (c .before .before .before .args .d .now) (c .before .before .before .pre .sheet) in
-    h .long
-
-add-j-2 : tie.Need-add-j-2 Inv-loop μ-loop
-add-j-2 c = omega (arith, c .before .body-count .ensures .1, c .body-length .ensures .1)
+first-record-requires : tie.Need-first-record-requires Inv-loop μ-loop
+first-record-requires c κs = search needs
 
 loop-holds : tie.Need-loop-holds Inv-loop μ-loop
-loop-holds c =
-    begins (c .before .before .before .before .args .d .now) (c .before .body-count .result) (c .body-length .result) (c .before .body-count .ensures .0) (c .body-length .ensures .0) (c .before .before .before .before .pre .sheet) (c .before .body-count .ensures .1)
+loop-holds c = c .first-record .ensures .1
 
 write-record-requires : tie.Need-write-record-requires Inv-loop μ-loop
 write-record-requires c κs =
-    let l = c .before .loop in
-    let d = c .before .before .before .before .before .before .args .d .now in
-    let y = next-lies d (l .left) (l .i) (l .j) (c .loop-test .taken) (l .inv) in
-    (c .before .before .before .before .before .before .pre, y)
+    let l = c .before .before in
+    let p = l .before .before .before .before in
+    (p .pre, next-lies (p .args .d .now) (l .loop .w) (c .if1 .taken) (l .loop .inv))
 
-body-length-requires-2 : tie.Need-body-length-requires-2 Inv-loop μ-loop
-body-length-requires-2 c κs =
-    let l = c .before .before .before .loop in
-    let d = c .before .before .before .before .before .before .before .before .args .d .now in
-    let y = next-lies d (l .left) (l .i) (l .j) (c .before .before .loop-test .taken) (l .inv) in
-    y .length-fits
-
-add-j-3 : tie.Need-add-j-3 Inv-loop μ-loop
-add-j-3 c =
-    let l = c .before .before .before .before .loop in
-    let d = c .before .before .before .before .before .before .before .before .before .args .d .now in
-    let y = next-lies d (l .left) (l .i) (l .j) (c .before .before .before .loop-test .taken) (l .inv) in
-    let h = headed-at (c .before .before .before .before .before .before .before .before .before .args .d .now) (c .before .before .before .before .before .before .before .before .before .pre .sheet) in
-    omega (arith, y .body-fits, c .body-length2 .ensures .0, h .short)
-
-add-i : tie.Need-add-i Inv-loop μ-loop
-add-i c =
-    let l = c .before .before .before .before .loop in
-    let d = c .before .before .before .before .before .before .before .before .before .args .d .now in
-    let y = next-lies d (l .left) (l .i) (l .j) (c .before .before .before .loop-test .taken) (l .inv) in
-    let h = headed-at (c .before .before .before .before .before .before .before .before .before .args .d .now) (c .before .before .before .before .before .before .before .before .before .pre .sheet) in
-    omega (arith, y .length-fits, h .short)
-
-sub-left-2 : tie.Need-sub-left-2 Inv-loop μ-loop
-sub-left-2 c = omega (arith, c .before .before .before .loop-test .taken)
+next-record-requires : tie.Need-next-record-requires Inv-loop μ-loop
+next-record-requires c κs = (c .before .before .if1 .taken, c .before .before .before .before .loop .inv)
 
 loop-less : tie.Need-loop-less Inv-loop μ-loop
-loop-less c = omega (arith, c .before .before .before .loop-test .taken)
+loop-less c =
+    let t = c .before .before .before in
+    let l = t .before .before in
+    fewer (l .before .before .before .before .args .d .now) (l .loop .w) (t .if1 .taken) (c .next-record .result) (c .next-record .ensures .0)
 
 loop-again : tie.Need-loop-again Inv-loop μ-loop
-loop-again c =
-    let l = c .before .before .before .before .loop in
-    let d = c .before .before .before .before .before .before .before .before .before .args .d .now in
-    stands-then d (l .left) (l .i) (l .j) (c .body-length2 .result) (c .before .before .before .loop-test .taken) (c .body-length2 .ensures .0) (l .inv)
+loop-again c = c .next-record .ensures .1
 
 returns : tie.Need-returns Inv-loop μ-loop
 returns c = search needs
@@ -93,18 +47,10 @@ write-records-spec =
     (tie.spec
     Inv-loop
     μ-loop
-    body-count-requires
-    sub-left
-    mul-j
-    add-j
-    body-length-requires
-    add-j-2
+    first-record-requires
     loop-holds
     write-record-requires
-    body-length-requires-2
-    add-j-3
-    add-i
-    sub-left-2
+    next-record-requires
     loop-less
     loop-again
     returns

@@ -5,7 +5,7 @@ use Rattle.pralakuon.proofs.write_refusal.Tie as tie
 use native.Mathlib.Omega.{arith}
 use mathlib.Core.Path.{sym}
 use lib.Seq.{length-take-le}
-use Rattle.session.proofs.Refusals.{refusal-most}
+use Rattle.outcomes.proofs.Refusals.{refusal-most}
 
 slice-aggregate-put-refusal : tie.Need-slice-aggregate-put-refusal
 slice-aggregate-put-refusal c = search needs

@@ -2,7 +2,7 @@
 use mathlib.Core.Path.{ap, _∙_}
 use lib.ListN.{length}
 use Rattle.answer.specs.Answers.{callOutcome}
-use Rattle.answer.specs.Rooms.{packedAnswer}
+use Rattle.packing.specs.Packing.{packedAnswer}
 use Rattle.answer.proofs.Answering.{packed-answer}
 use borrow.Author.Needs.{needs}
 use Rattle.pralakuon_c.proofs.pralakuon_line.Statement.{statement}

@@ -3,9 +3,10 @@ use mathlib.Core.Path.{sym, ap, subst, _∙_}
 use borrow.Author.Needs.{needs}
 use lib.ListN.{length}
 use Rattle.answer.specs.Answers.{inRoom}
-use Rattle.answer.specs.Rooms.{packedAnswer, Packable}
-use Rattle.answer.proofs.Answering.{packable-in, answer-in-room, packed-answer}
-use Rattle.session.specs.Program.{output}
+use Rattle.packing.specs.Packing.{packedAnswer, Packable}
+use Rattle.answer.proofs.Answering.{answer-in-room, packed-answer}
+use Rattle.packing.proofs.Rooms.{packable-in}
+use Rattle.outcomes.specs.Program.{output}
 use Rattle.pralakuon_c.proofs.Sessions.{output-counted}
 use Rattle.pralakuon_c.proofs.pralakuon_session.Statement.{statement}
 use Rattle.pralakuon_c.proofs.pralakuon_session.Tie as tie

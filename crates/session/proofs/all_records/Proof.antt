@@ -8,9 +8,9 @@ use mathlib.Core.Path.{ap, _∙_}
 use lib.ListN.{length}
 use Rattle.segments.specs.Pool.{chainAt}
 use Rattle.session.specs.Walking.{allLines}
-use Rattle.session.proofs.Answered.{answer-fits, buffer-fits, answer-over, buffer-over}
+use Rattle.outcomes.proofs.Answered.{answer-fits, buffer-fits, answer-over, buffer-over}
 use Rattle.refusals.specs.declared.Refusal.{Refusal}
-use Rattle.answer.specs.declared.Answer.{Answer}
+use Rattle.packing.specs.declared.Answer.{Answer}
 
 records-length-requires : tie.Need-records-length-requires
 records-length-requires c κs = search needs

@@ -6,10 +6,10 @@ use native.Mathlib.Omega.{arith}
 use Prim.Native.Nat.{ℕ, _≤_, _<_}
 use mathlib.Core.Path.{ap, _∙_}
 use lib.ListN.{length}
-use Rattle.session.specs.Program.{refusalLine}
-use Rattle.session.proofs.Answered.{answer-fits, buffer-fits, answer-over, buffer-over}
+use Rattle.outcomes.specs.Program.{refusalLine}
+use Rattle.outcomes.proofs.Answered.{answer-fits, buffer-fits, answer-over, buffer-over}
 use Rattle.refusals.specs.declared.Refusal.{Refusal}
-use Rattle.answer.specs.declared.Answer.{Answer}
+use Rattle.packing.specs.declared.Answer.{Answer}
 
 refusal-length-requires : tie.Need-refusal-length-requires
 refusal-length-requires c κs = search needs

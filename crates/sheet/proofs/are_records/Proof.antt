@@ -4,7 +4,7 @@ use native.Mathlib.Omega.{arith}
 use Prim.Native.Nat.{ℕ, suc, _+_, _-_}
 use mathlib.Core.Path.{_≡_, refl, sym, ap, subst, _∙_}
 use mathlib.Core.Bool.{true, false}
-use Rattle.text.specs.Bytes.{part}
+use Rattle.buffer.specs.Bytes.{part}
 use Rattle.record.specs.Layout.{u32, rightSize}
 use Rattle.sheet.specs.Sheets.{bodiesFrom, areRecords}
 use Rattle.sheet.proofs.Walk.{Left, next-fits, next-left, records-go-on, records-stop, records-end}

@@ -5,7 +5,7 @@ use Prim.Native.Nat.{ℕ, _+_, _-_, _*_, _≤_}
 use mathlib.Core.Path.{_≡_, sym, ap, _∙_}
 use mathlib.Core.List.{List}
 use mathlib.Core.Bool.{Bool, true, false, _&&_}
-use Rattle.text.specs.Bytes.{part}
+use Rattle.buffer.specs.Bytes.{part}
 use lib.ListN.{length}
 use Rattle.sheet.specs.Sheets.{bodyCount, contentsEnd, bodyBytes, bodiesFrom, isHead, areRecords, isSheet}
 use Rattle.sheet.proofs.Standing.{too-long, too-short, no-body, cut-off, not-whole, contents-end}

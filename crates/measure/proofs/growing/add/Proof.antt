@@ -4,8 +4,8 @@ use borrow.Author.Needs.{needs}
 use mathlib.Core.Path.{refl, ap}
 use Prim.Native.Nat.{ℕ, _+_}
 use lib.ListN.{length}
-use Rattle.text.specs.Characters.{chars}
-use Rattle.text.proofs.Counting.{chars-length}
+use Rattle.characters.specs.Characters.{chars}
+use Rattle.characters.proofs.Counting.{chars-length}
 use Rattle.colour.specs.Machine.{scan}
 use Rattle.measure.proofs.Measured.{measure-eq}
 use Rattle.measure.proofs.growing.add.Statement.{statement}
@@ -14,7 +14,7 @@ use Rattle.measure.proofs.growing.add.Tie as tie
 scan-text-requires : tie.Need-scan-text-requires
 scan-text-requires c κs =
     let p = c .before .before in
-    (omega (arith, p .pre .1, p .pre .0 .held), omega (arith, p .pre .1, p .pre .0 .resets))
+    (omega (arith, p .pre .1, p .pre .0 .count, p .pre .0 .seen), omega (arith, p .pre .1, p .pre .0 .resets))
 
 count-chars-requires : tie.Need-count-chars-requires
 count-chars-requires c κs = search needs

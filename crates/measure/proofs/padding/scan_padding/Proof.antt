@@ -11,7 +11,7 @@ use Rattle.colour.specs.Formatting.{padByte}
 use Rattle.colour.specs.Machine.{actOf, moved, scan}
 use Rattle.colour.proofs.Scanning.{scan-free, sequences-grow, resets-grow}
 use Rattle.colour.proofs.Shows.{free-pad}
-use Rattle.measure.proofs.Searched.{same-step, same-end}
+use Rattle.scanning.proofs.Searched.{same-step, same-end}
 use Rattle.measure.proofs.padding.scan_padding.Statement.{statement}
 use Rattle.measure.proofs.padding.scan_padding.Tie as tie
 

@@ -4,7 +4,7 @@ use mathlib.Core.Path.{_≡_, refl, ap, sym}
 use Prim.Native.Nat.{ℕ, zero, suc, _≤_}
 use native.Mathlib.Omega.{arith}
 use lib.ListN.{length}
-use Rattle.record.specs.Checks.{levelAt, levelOf}
+use Rattle.record.specs.Contents.{levelAt, levelOf}
 use Rattle.record.specs.Records.{levels}
 use Rattle.record.specs.declared.Level.{Level}
 use Rattle.record.proofs.levels.level_of.Statement.{statement}

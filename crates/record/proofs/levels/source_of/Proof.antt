@@ -1,7 +1,7 @@
 -- `record::levels::source_of` meets its contract. Assumes nothing.
 use mathlib.Core.Path.{_≡_, refl, ap, sym}
 use Prim.Native.Nat.{ℕ, zero, suc}
-use Rattle.record.specs.Checks.{sourceOf}
+use Rattle.record.specs.Contents.{sourceOf}
 use Rattle.record.specs.declared.Source.{Source}
 use Rattle.record.proofs.levels.source_of.Statement.{statement}
 use Rattle.record.proofs.levels.source_of.Tie as tie

@@ -2,7 +2,7 @@
 use borrow.Author.Needs.{needs}
 use native.Mathlib.Omega.{arith}
 use mathlib.Core.Path.{sym, _∙_}
-use Rattle.segments.specs.Pool.{widthOf}
+use Rattle.segments.specs.Pool.{storedWidth}
 use Rattle.segments.proofs.Codes.{width-more}
 use Rattle.segments.proofs.coding.width_number.Statement.{statement}
 use Rattle.segments.proofs.coding.width_number.Tie as tie
@@ -20,7 +20,7 @@ add-result : tie.Need-add-result
 add-result c = omega arith
 
 returns : tie.Need-returns
-unfolding widthOf
+unfolding storedWidth
 returns c = sym (c .enum-told .given .1)
 
 returns-2 : tie.Need-returns-2

@@ -1,66 +1,52 @@
 -- `segments::decoding::colour_of` meets its contract. Assumes nothing.
 use native.Mathlib.Omega.{arith}
 use mathlib.Core.Path.{sym, ap}
-use Rattle.segments.specs.Pool.{entry, colours, colourOf}
+use Rattle.segments.specs.Pool.{storedColours, storedColour}
 use Rattle.segments.proofs.Codes.{entry-past, above}
 use Rattle.segments.proofs.decoding.colour_of.Statement.{statement}
 use Rattle.segments.proofs.decoding.colour_of.Tie as tie
 
 returns : tie.Need-returns
-unfolding colourOf entry
-returns c = sym (ap colourOf (c .match .keys1))
+returns c = sym (ap storedColour (c .match .keys1))
 
 returns-2 : tie.Need-returns-2
-unfolding colourOf entry
-returns-2 c = sym (ap colourOf (c .match .keys2))
+returns-2 c = sym (ap storedColour (c .match .keys2))
 
 returns-3 : tie.Need-returns-3
-unfolding colourOf entry
-returns-3 c = sym (ap colourOf (c .match .keys3))
+returns-3 c = sym (ap storedColour (c .match .keys3))
 
 returns-4 : tie.Need-returns-4
-unfolding colourOf entry
-returns-4 c = sym (ap colourOf (c .match .keys4))
+returns-4 c = sym (ap storedColour (c .match .keys4))
 
 returns-5 : tie.Need-returns-5
-unfolding colourOf entry
-returns-5 c = sym (ap colourOf (c .match .keys5))
+returns-5 c = sym (ap storedColour (c .match .keys5))
 
 returns-6 : tie.Need-returns-6
-unfolding colourOf entry
-returns-6 c = sym (ap colourOf (c .match .keys6))
+returns-6 c = sym (ap storedColour (c .match .keys6))
 
 returns-7 : tie.Need-returns-7
-unfolding colourOf entry
-returns-7 c = sym (ap colourOf (c .match .keys7))
+returns-7 c = sym (ap storedColour (c .match .keys7))
 
 returns-8 : tie.Need-returns-8
-unfolding colourOf entry
-returns-8 c = sym (ap colourOf (c .match .keys8))
+returns-8 c = sym (ap storedColour (c .match .keys8))
 
 returns-9 : tie.Need-returns-9
-unfolding colourOf entry
-returns-9 c = sym (ap colourOf (c .match .keys9))
+returns-9 c = sym (ap storedColour (c .match .keys9))
 
 returns-10 : tie.Need-returns-10
-unfolding colourOf entry
-returns-10 c = sym (ap colourOf (c .match .keys10))
+returns-10 c = sym (ap storedColour (c .match .keys10))
 
 returns-11 : tie.Need-returns-11
-unfolding colourOf entry
-returns-11 c = sym (ap colourOf (c .match .keys11))
+returns-11 c = sym (ap storedColour (c .match .keys11))
 
 returns-12 : tie.Need-returns-12
-unfolding colourOf entry
-returns-12 c = sym (ap colourOf (c .match .keys12))
+returns-12 c = sym (ap storedColour (c .match .keys12))
 
 returns-13 : tie.Need-returns-13
-unfolding colourOf entry
-returns-13 c = sym (ap colourOf (c .match .keys13))
+returns-13 c = sym (ap storedColour (c .match .keys13))
 
 returns-14 : tie.Need-returns-14
-unfolding colourOf
-returns-14 c = let r = c .match .rest in sym (entry-past _ colours _ (above 12 _ (above 11 _ (above 10 _ (above 9 _ (above 8 _ (above 7 _ (above 6 _ (above 5 _ (above 4 _ (above 3 _ (above 2 _ (above 1 _ (above 0 _ (omega arith) (r .0 .0 .0 .0 .0 .0 .0 .0 .0 .0 .0 .0 .1)) (r .0 .0 .0 .0 .0 .0 .0 .0 .0 .0 .0 .1)) (r .0 .0 .0 .0 .0 .0 .0 .0 .0 .0 .1)) (r .0 .0 .0 .0 .0 .0 .0 .0 .0 .1)) (r .0 .0 .0 .0 .0 .0 .0 .0 .1)) (r .0 .0 .0 .0 .0 .0 .0 .1)) (r .0 .0 .0 .0 .0 .0 .1)) (r .0 .0 .0 .0 .0 .1)) (r .0 .0 .0 .0 .1)) (r .0 .0 .0 .1)) (r .0 .0 .1)) (r .0 .1)) (r .1)))
+returns-14 c = let r = c .match .rest in sym (entry-past _ storedColours _ (above 12 _ (above 11 _ (above 10 _ (above 9 _ (above 8 _ (above 7 _ (above 6 _ (above 5 _ (above 4 _ (above 3 _ (above 2 _ (above 1 _ (above 0 _ (omega arith) (r .0 .0 .0 .0 .0 .0 .0 .0 .0 .0 .0 .0 .1)) (r .0 .0 .0 .0 .0 .0 .0 .0 .0 .0 .0 .1)) (r .0 .0 .0 .0 .0 .0 .0 .0 .0 .0 .1)) (r .0 .0 .0 .0 .0 .0 .0 .0 .0 .1)) (r .0 .0 .0 .0 .0 .0 .0 .0 .1)) (r .0 .0 .0 .0 .0 .0 .0 .1)) (r .0 .0 .0 .0 .0 .0 .1)) (r .0 .0 .0 .0 .0 .1)) (r .0 .0 .0 .0 .1)) (r .0 .0 .0 .1)) (r .0 .0 .1)) (r .0 .1)) (r .1)))
 
 pub colour-of-spec : {M : Type 1} → statement M
 colour-of-spec =

@@ -11,43 +11,33 @@ cast-t12 : tie.Need-cast-t12
 cast-t12 c = omega arith
 
 returns : tie.Need-returns
-unfolding entry
 returns c = sym (ap (entry Kind.Text (kinds _)) (c .match .keys1))
 
 returns-2 : tie.Need-returns-2
-unfolding entry
 returns-2 c = sym (ap (entry Kind.Text (kinds _)) (c .match .keys2))
 
 returns-3 : tie.Need-returns-3
-unfolding entry
 returns-3 c = sym (ap (entry Kind.Text (kinds _)) (c .match .keys3))
 
 returns-4 : tie.Need-returns-4
-unfolding entry
 returns-4 c = sym (ap (entry Kind.Text (kinds _)) (c .match .keys4))
 
 returns-5 : tie.Need-returns-5
-unfolding entry
 returns-5 c = sym (ap (entry Kind.Text (kinds _)) (c .match .keys5))
 
 returns-6 : tie.Need-returns-6
-unfolding entry
 returns-6 c = sym (ap (entry Kind.Text (kinds _)) (c .match .keys6))
 
 returns-7 : tie.Need-returns-7
-unfolding entry
 returns-7 c = sym (ap (entry Kind.Text (kinds _)) (c .match .keys7))
 
 returns-8 : tie.Need-returns-8
-unfolding entry
 returns-8 c = sym (ap (entry Kind.Text (kinds _)) (c .match .keys8))
 
 returns-9 : tie.Need-returns-9
-unfolding entry
 returns-9 c = sym (ap (entry Kind.Text (kinds _)) (c .match .keys9))
 
 returns-10 : tie.Need-returns-10
-unfolding entry
 returns-10 c = sym (ap (entry Kind.Text (kinds _)) (c .match .keys10))
 
 returns-11 : tie.Need-returns-11

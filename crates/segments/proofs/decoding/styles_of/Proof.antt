@@ -1,6 +1,5 @@
 -- `segments::decoding::styles_of` meets its contract. Assumes nothing.
 use borrow.Author.Needs.{needs}
-use Rattle.segments.specs.Pool.{stylesOf}
 use Rattle.segments.proofs.decoding.styles_of.Statement.{statement}
 use Rattle.segments.proofs.decoding.styles_of.Tie as tie
 
@@ -20,7 +19,6 @@ is-odd-requires-5 : tie.Need-is-odd-requires-5
 is-odd-requires-5 c κs = search needs
 
 returns : tie.Need-returns
-unfolding stylesOf
 returns c = λ j. record { bold = c .before .before .before .before .is-odd .ensures j; dimmed = c .before .before .before .is-odd2 .ensures j; underline = c .before .before .is-odd3 .ensures j; italic = c .before .is-odd4 .ensures j; strike = c .is-odd5 .ensures j }
 
 pub styles-of-spec : {M : Type 1} → statement M

@@ -2,7 +2,7 @@
 use borrow.Author.Needs.{needs}
 use native.Mathlib.Omega.{arith}
 use mathlib.Core.Path.{sym, ap}
-use Rattle.segments.specs.Pool.{widthOf}
+use Rattle.segments.specs.Pool.{storedWidth}
 use Rattle.segments.proofs.Codes.{width-less}
 use Rattle.segments.proofs.decoding.width_of.Statement.{statement}
 use Rattle.segments.proofs.decoding.width_of.Tie as tie
@@ -14,8 +14,8 @@ cast-t6 : tie.Need-cast-t6
 cast-t6 c = omega arith
 
 returns : tie.Need-returns
-unfolding widthOf
-returns c = sym (ap widthOf (c .if1 .taken))
+unfolding storedWidth
+returns c = sym (ap storedWidth (c .if1 .taken))
 
 returns-2 : tie.Need-returns-2
 returns-2 c = width-less _ (c .if1 .left)

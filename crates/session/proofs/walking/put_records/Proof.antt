@@ -1,122 +1,89 @@
 -- `session::walking::put_records` meets its contract. Assumes nothing.
-use Rattle.session.proofs.walking.put_records.Statement.{statement}
-use Rattle.session.proofs.walking.put_records.Tie as tie
+use borrow.Author.Needs.{needs}
 use native.Mathlib.Omega.{arith}
-use Prim.Native.Nat.{_+_, _-_, _≤_}
+use Prim.Native.Nat.{_+_, _≤_}
 use mathlib.Core.Path.{_≡_, refl, sym, ap, _∙_}
 use lib.ListN.{length}
-use Rattle.session.proofs.Places.{some-body}
-use Rattle.text.proofs.Writing.{put-nil, put-length}
-use Rattle.record.specs.Layout.{u32}
+use Rattle.buffer.specs.Buffer.{putAt}
+use Rattle.buffer.proofs.Writing.{put-nil, put-length}
 use Rattle.segments.specs.Pool.{chainAt}
-use Rattle.text.specs.Buffer.{putAt}
-use Rattle.session.specs.Walking.{Standing, linesFrom, allLines, lineAt}
-use Rattle.session.proofs.Places.{headed-at, begins, begins-lines, stands-then, lines-then, lines-count, lines-end, next-lies, put-then}
+use Rattle.session.specs.Walking.{Standing, walkOn, lineAt, linesLeft, allLines}
+use Rattle.session.proofs.Places.{lines-all, next-lies, fewer, lines-then, lines-count, lines-end, put-then}
+use Rattle.session.proofs.walking.put_records.Statement.{statement}
+use Rattle.session.proofs.walking.put_records.Tie as tie
 
 abbrev Inv-loop : tie.InvT-loop
-Inv-loop d cells n out₀ count left₀ i₀ j₀ at₀ out left i j at =
-    Standing d left i j × ((at + length (linesFrom left d (chainAt cells n) i j) ≡ length (allLines d (chainAt cells n))) × ((putAt out at (linesFrom left d (chainAt cells n) i j) ≡ putAt out₀ 0 (allLines d (chainAt cells n))) × (length out ≡ length out₀)))
+Inv-loop d cells n out₀ w₀ at₀ out w at =
+    Standing d w × ((at + length (linesLeft d (chainAt cells n) w) ≡ length (allLines d (chainAt cells n))) × ((putAt out at (linesLeft d (chainAt cells n) w) ≡ putAt out₀ 0 (allLines d (chainAt cells n))) × (length out ≡ length out₀)))
 
 abbrev μ-loop : tie.MeasureT-loop
-μ-loop d cells n out₀ count left₀ i₀ j₀ at₀ out left i j at = left
+μ-loop d cells n out₀ w₀ at₀ out w at = w .left
 
-body-count-requires : tie.Need-body-count-requires Inv-loop μ-loop
-body-count-requires c κs =
-    let h = headed-at (c .before .before .before .args .d .now) (c .before .before .before .pre .0 .sheet) in
-    omega (arith, h .long)
-
-sub-left : tie.Need-sub-left Inv-loop μ-loop
-sub-left c =
-    omega (arith, some-body (c .before .before .before .before .args .d .now) (c .before .before .before .before .pre .0 .sheet), c .body-count .ensures .0)
-
-mul-j : tie.Need-mul-j Inv-loop μ-loop
-mul-j c = omega (arith, c .body-count .ensures .1)
-
-add-j : tie.Need-add-j Inv-loop μ-loop
-add-j c = omega (arith, c .body-count .ensures .1)
-
-body-length-requires : tie.Need-body-length-requires Inv-loop μ-loop
-body-length-requires c κs =
-    let h = headed-at (c .before .before .before .before .args .d .now) (c .before .before .before .before .pre .0 .sheet) in
-    h .long
-
-add-j-2 : tie.Need-add-j-2 Inv-loop μ-loop
-add-j-2 c = omega (arith, c .before .body-count .ensures .1, c .body-length .ensures .1)
+first-record-requires : tie.Need-first-record-requires Inv-loop μ-loop
+first-record-requires c κs = search needs
 
 loop-holds : tie.Need-loop-holds Inv-loop μ-loop
 loop-holds c =
-    (begins (c .before .before .before .before .before .args .d .now) (c .before .body-count .result) (c .body-length .result) (c .before .body-count .ensures .0) (c .body-length .ensures .0) (c .before .before .before .before .before .pre .0 .sheet) (c .before .body-count .ensures .1), (omega (arith, ap length (begins-lines (c .before .before .before .before .before .args .d .now) (c .before .body-count .result) (c .body-length .result) (c .before .body-count .ensures .0) (c .body-length .ensures .0) (chainAt (c .before .before .before .before .before .args .cells .now) (c .before .before .before .before .before .args .n)))), (ap (putAt (c .before .before .before .before .before .args .out .now) 0) (begins-lines (c .before .before .before .before .before .args .d .now) (c .before .body-count .result) (c .body-length .result) (c .before .body-count .ensures .0) (c .body-length .ensures .0) (chainAt (c .before .before .before .before .before .args .cells .now) (c .before .before .before .before .before .args .n))), refl)))
+    let p = c .before .before .before .before .args in
+    let w = c .first-record in
+    let all = lines-all (p .d .now) (chainAt (p .cells .now) (p .n)) (w .result) (w .ensures .0) in
+    (w .ensures .1, (omega (arith, ap length all), (ap (putAt (p .out .now) 0) all, refl)))
 
 put-record-requires : tie.Need-put-record-requires Inv-loop μ-loop
 put-record-requires c κs =
-    let l = c .before .before .loop in
-    let d = c .before .before .before .before .before .before .before .before .args .d .now in
-    let s = chainAt (c .before .before .before .before .before .before .before .before .args .cells .now) (c .before .before .before .before .before .before .before .before .args .n) in
-    let y = next-lies d (l .left) (l .i) (l .j) (c .before .loop-test .taken) (l .inv .0) in
-    let m = lines-count d (l .left) (l .i) (l .j) (u32 d (l .i)) (c .before .loop-test .taken) refl s in
-    ((c .before .before .before .before .before .before .before .before .pre .0, y), omega (arith, m, l .inv .1 .0, l .inv .1 .1 .1, c .before .before .before .before .before .before .before .before .pre .1))
+    let l = c .before .before .before in
+    let p = l .before .before .before .before .before in
+    let d = p .args .d .now in
+    let more = c .before .if1 .taken in
+    let m = lines-count d (l .loop .w) more (walkOn d (l .loop .w)) refl (chainAt (p .args .cells .now) (p .args .n)) in
+    ((p .pre .0, next-lies d (l .loop .w) more (l .loop .inv .0)), omega (arith, m, l .loop .inv .1 .0, l .loop .inv .1 .1 .1, p .pre .1))
 
-body-length-requires-2 : tie.Need-body-length-requires-2 Inv-loop μ-loop
-body-length-requires-2 c κs =
-    let l = c .before .before .before .before .before .loop in
-    let d = c .before .before .before .before .before .before .before .before .before .before .before .args .d .now in
-    let s = chainAt (c .before .before .before .before .before .before .before .before .before .before .before .args .cells .now) (c .before .before .before .before .before .before .before .before .before .before .before .args .n) in
-    let y = next-lies d (l .left) (l .i) (l .j) (c .before .before .before .before .loop-test .taken) (l .inv .0) in
-    y .length-fits
-
-add-j-3 : tie.Need-add-j-3 Inv-loop μ-loop
-add-j-3 c =
-    let l = c .before .before .before .before .before .before .loop in
-    let d = c .before .before .before .before .before .before .before .before .before .before .before .before .args .d .now in
-    let s = chainAt (c .before .before .before .before .before .before .before .before .before .before .before .before .args .cells .now) (c .before .before .before .before .before .before .before .before .before .before .before .before .args .n) in
-    let y = next-lies d (l .left) (l .i) (l .j) (c .before .before .before .before .before .loop-test .taken) (l .inv .0) in
-    let h = headed-at (c .before .before .before .before .before .before .before .before .before .before .before .before .args .d .now) (c .before .before .before .before .before .before .before .before .before .before .before .before .pre .0 .sheet) in
-    omega (arith, y .body-fits, c .body-length2 .ensures .0, h .short)
-
-add-i : tie.Need-add-i Inv-loop μ-loop
-add-i c =
-    let l = c .before .before .before .before .before .before .loop in
-    let d = c .before .before .before .before .before .before .before .before .before .before .before .before .args .d .now in
-    let s = chainAt (c .before .before .before .before .before .before .before .before .before .before .before .before .args .cells .now) (c .before .before .before .before .before .before .before .before .before .before .before .before .args .n) in
-    let y = next-lies d (l .left) (l .i) (l .j) (c .before .before .before .before .before .loop-test .taken) (l .inv .0) in
-    let h = headed-at (c .before .before .before .before .before .before .before .before .before .before .before .before .args .d .now) (c .before .before .before .before .before .before .before .before .before .before .before .before .pre .0 .sheet) in
-    omega (arith, y .length-fits, h .short)
-
-sub-left-2 : tie.Need-sub-left-2 Inv-loop μ-loop
-sub-left-2 c = omega (arith, c .before .before .before .before .before .loop-test .taken)
+next-record-requires : tie.Need-next-record-requires Inv-loop μ-loop
+next-record-requires c κs =
+    let t = c .before .before .before .before in
+    (t .if1 .taken, t .before .before .loop .inv .0)
 
 loop-less : tie.Need-loop-less Inv-loop μ-loop
-loop-less c = omega (arith, c .before .before .before .before .before .loop-test .taken)
+loop-less c =
+    let t = c .before .before .before .before .before in
+    let l = t .before .before in
+    fewer (l .before .before .before .before .before .args .d .now) (l .loop .w) (t .if1 .taken) (c .next-record .result) (c .next-record .ensures .0)
 
 loop-again : tie.Need-loop-again Inv-loop μ-loop
 loop-again c =
-    let l = c .before .before .before .before .before .before .loop in
-    let d = c .before .before .before .before .before .before .before .before .before .before .before .before .args .d .now in
-    let s = chainAt (c .before .before .before .before .before .before .before .before .before .before .before .before .args .cells .now) (c .before .before .before .before .before .before .before .before .before .before .before .before .args .n) in
-    let m = lines-count d (l .left) (l .i) (l .j) (c .body-length2 .result) (c .before .before .before .before .before .loop-test .taken) (c .body-length2 .ensures .0) s in
-    let one = lineAt d s (l .i) (l .j) in
-    let rest = linesFrom (l .left - 1) d s (l .i + 4) (l .j + c .body-length2 .result) in
-    let p = c .before .before .before .put-record .ensures in
-    let f : l .at + (length one + length rest) ≤ length (l .out) = omega (arith, m, l .inv .1 .0, l .inv .1 .1 .1, c .before .before .before .before .before .before .before .before .before .before .before .before .pre .1) in (
-      stands-then d (l .left) (l .i) (l .j) (c .body-length2 .result) (c .before .before .before .before .before .loop-test .taken) (c .body-length2 .ensures .0) (l .inv .0),
+    let t = c .before .before .before .before .before in
+    let l = t .before .before in
+    let p = l .before .before .before .before .before in
+    let d = p .args .d .now in
+    let s = chainAt (p .args .cells .now) (p .args .n) in
+    let more = t .if1 .taken in
+    let w = c .next-record in
+    let put = c .before .before .before .put-record in
+    let m = lines-count d (l .loop .w) more (w .result) (w .ensures .0) s in
+    let one = lineAt d s (l .loop .w .i) (l .loop .w .j) in
+    let rest = linesLeft d s (w .result) in
+    let f : l .loop .at + (length one + length rest) ≤ length (l .loop .out) = omega (arith, m, l .loop .inv .1 .0, l .loop .inv .1 .1 .1, p .pre .1) in (
+      w .ensures .1,
       (
-        omega (arith, l .inv .1 .0, p .0, m),
+        omega (arith, l .loop .inv .1 .0, put .ensures .0, m),
         (
-          put-then (l .out) (c .before .before .before .put-record .last .1 .1 .1 .1 .1 .0) (l .at) (c .before .before .before .put-record .result) one rest (p .1) (p .0) f ∙ ap (putAt (l .out) (l .at)) (sym (lines-then d (l .left) (l .i) (l .j) (c .body-length2 .result) (c .before .before .before .before .before .loop-test .taken) (c .body-length2 .ensures .0) s)) ∙ l .inv .1 .1 .0,
-          ap length (p .1) ∙ put-length (l .out) (l .at) one (omega (arith, f)) ∙ l .inv .1 .1 .1,
+          put-then (l .loop .out) (put .last .1 .1 .1 .1 .1 .0) (l .loop .at) (put .result) one rest (put .ensures .1) (put .ensures .0) f
+              ∙ ap (putAt (l .loop .out) (l .loop .at)) (sym (lines-then d (l .loop .w) more (w .result) (w .ensures .0) s))
+              ∙ l .loop .inv .1 .1 .0,
+          ap length (put .ensures .1) ∙ put-length (l .loop .out) (l .loop .at) one (omega (arith, f)) ∙ l .loop .inv .1 .1 .1,
         ),
       ),
     )
 
 same-length : tie.Need-same-length Inv-loop μ-loop
-same-length c = c .before .loop .inv .1 .1 .1
+same-length c = c .before .before .loop .inv .1 .1 .1
 
 returns : tie.Need-returns Inv-loop μ-loop
 returns c =
-    let l = c .before .loop in
-    let d = c .before .before .before .before .before .before .before .args .d .now in
-    let s = chainAt (c .before .before .before .before .before .before .before .args .cells .now) (c .before .before .before .before .before .before .before .args .n) in
-    sym (put-nil (l .out) (l .at)) ∙ ap (putAt (l .out) (l .at)) (sym (lines-end d s (l .left) (l .i) (l .j) (omega (arith, c .loop-test .left)))) ∙ l .inv .1 .1 .0
+    let l = c .before .before in
+    let p = l .before .before .before .before .before .args in
+    let none = lines-end (p .d .now) (chainAt (p .cells .now) (p .n)) (l .loop .w) (omega (arith, c .if1 .left)) in
+    sym (put-nil (l .loop .out) (l .loop .at)) ∙ ap (putAt (l .loop .out) (l .loop .at)) (sym none) ∙ l .loop .inv .1 .1 .0
 
 pub put-records-spec : {M : Type 1} → statement M
 put-records-spec =
@@ -124,18 +91,10 @@ put-records-spec =
     (tie.spec
     Inv-loop
     μ-loop
-    body-count-requires
-    sub-left
-    mul-j
-    add-j
-    body-length-requires
-    add-j-2
+    first-record-requires
     loop-holds
     put-record-requires
-    body-length-requires-2
-    add-j-3
-    add-i
-    sub-left-2
+    next-record-requires
     loop-less
     loop-again
     same-length

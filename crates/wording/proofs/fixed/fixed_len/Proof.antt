@@ -1,100 +1,17 @@
--- `wording::fixed::fixed_len` meets its contract, name by name. Assumes nothing.
+-- `wording::fixed::fixed_len` meets its contract. Assumes nothing.
 use borrow.Author.Needs.{needs}
-use Rattle.fields.specs.Wordings.{fixedText}
+use mathlib.Core.Path.{sym, ap, _∙_}
+use lib.ListN.{length}
+use Rattle.buffer.proofs.Parts.{part-length}
+use Rattle.wording.specs.Table.{table}
 use Rattle.wording.proofs.fixed.fixed_len.Statement.{statement}
 use Rattle.wording.proofs.fixed.fixed_len.Tie as tie
 
-enum-told : tie.Need-enum-told
-enum-told c = search needs
-
-enum-told-2 : tie.Need-enum-told-2
-enum-told-2 c = search needs
-
-enum-told-3 : tie.Need-enum-told-3
-enum-told-3 c = search needs
-
-enum-told-4 : tie.Need-enum-told-4
-enum-told-4 c = search needs
-
-enum-told-5 : tie.Need-enum-told-5
-enum-told-5 c = search needs
-
-enum-told-6 : tie.Need-enum-told-6
-enum-told-6 c = search needs
-
-enum-told-7 : tie.Need-enum-told-7
-enum-told-7 c = search needs
-
-enum-told-8 : tie.Need-enum-told-8
-enum-told-8 c = search needs
-
-enum-told-9 : tie.Need-enum-told-9
-enum-told-9 c = search needs
-
-enum-told-10 : tie.Need-enum-told-10
-enum-told-10 c = search needs
-
 returns : tie.Need-returns
-unfolding fixedText
-returns c = search needs
-
-returns-2 : tie.Need-returns-2
-unfolding fixedText
-returns-2 c = search needs
-
-returns-3 : tie.Need-returns-3
-unfolding fixedText
-returns-3 c = search needs
-
-returns-4 : tie.Need-returns-4
-unfolding fixedText
-returns-4 c = search needs
-
-returns-5 : tie.Need-returns-5
-unfolding fixedText
-returns-5 c = search needs
-
-returns-6 : tie.Need-returns-6
-unfolding fixedText
-returns-6 c = search needs
-
-returns-7 : tie.Need-returns-7
-unfolding fixedText
-returns-7 c = search needs
-
-returns-8 : tie.Need-returns-8
-unfolding fixedText
-returns-8 c = search needs
-
-returns-9 : tie.Need-returns-9
-unfolding fixedText
-returns-9 c = search needs
-
-returns-10 : tie.Need-returns-10
-unfolding fixedText
-returns-10 c = search needs
+unfolding table
+returns c =
+    let s = c .before .place-of .ensures in
+    sym (part-length table _ _ (s .ordered) (s .within)) ∙ ap length (s .text)
 
 pub fixed-len-spec : {M : Type 1} → statement M
-fixed-len-spec =
-    tie.close
-    (tie.spec
-    enum-told
-    enum-told-2
-    enum-told-3
-    enum-told-4
-    enum-told-5
-    enum-told-6
-    enum-told-7
-    enum-told-8
-    enum-told-9
-    enum-told-10
-    returns
-    returns-2
-    returns-3
-    returns-4
-    returns-5
-    returns-6
-    returns-7
-    returns-8
-    returns-9
-    returns-10)
+fixed-len-spec = tie.close (tie.spec (λ c κs. search needs) (λ c. search needs) returns)

@@ -1,98 +1,40 @@
--- `color_from_str` meets its contract: the table is gone through word by word. Assumes nothing.
+-- `color_from_str` meets its contract: by the law of looking up. Assumes nothing.
 use borrow.Author.Needs.{needs}
 use native.Mathlib.Omega.{arith}
-use mathlib.Core.Path.{sym, _∙_}
-use Rattle.words.proofs.Matching.{lookup-on, lookup-here}
-use Rattle.words.proofs.Asking.{word-read, same-sense}
+use Rattle.spelling.specs.Tables.{compared}
+use Rattle.spelling.proofs.Indexing.{listed, unlisted}
+use Rattle.words.specs.Words.{colours}
+use Rattle.words.proofs.Asking.{word-read, word-unread}
 use Rattle.words.proofs.parser.color_from_str.Statement.{statement}
 use Rattle.words.proofs.parser.color_from_str.Tie as tie
 
-slice-aggregate-is-word-in-any-case : tie.Need-slice-aggregate-is-word-in-any-case
-slice-aggregate-is-word-in-any-case c = search needs
+slice-aggregate-word-index : tie.Need-slice-aggregate-word-index
+slice-aggregate-word-index c = search needs
 
-is-word-in-any-case-requires : tie.Need-is-word-in-any-case-requires
-is-word-in-any-case-requires c κs = search needs
+slice-aggregate-word-index-2 : tie.Need-slice-aggregate-word-index-2
+slice-aggregate-word-index-2 c = search needs
 
-color-requires : tie.Need-color-requires
-color-requires c κs = search needs
+word-index-requires : tie.Need-word-index-requires
+word-index-requires c κs = search needs
 
 returns : tie.Need-returns
-returns c =
-    word-read _ _ _ _ _
-    (lookup-here _ _ _ (sym (c .before .before .is-word-in-any-case .ensures) ∙ c .before .if1 .taken))
-    (c .color .ensures) tt (omega arith)
+unfolding compared
+returns c = word-unread _ _ _ (unlisted colours _ _ (c .before .word-index .ensures) (c .if1 .taken))
 
-slice-aggregate-is-word-in-any-case-2 : tie.Need-slice-aggregate-is-word-in-any-case-2
-slice-aggregate-is-word-in-any-case-2 c = search needs
-
-is-word-in-any-case-requires-2 : tie.Need-is-word-in-any-case-requires-2
-is-word-in-any-case-requires-2 c κs = search needs
-
-color-requires-2 : tie.Need-color-requires-2
-color-requires-2 c κs = search needs
+color-at-requires : tie.Need-color-at-requires
+color-at-requires c κs = search needs
 
 returns-2 : tie.Need-returns-2
-returns-2 c =
-    word-read _ _ _ _ _
-    (lookup-on _ _ _ (sym (c .before .before .before .before .before .is-word-in-any-case .ensures) ∙ c .before .before .before .before .if1 .left) ∙ lookup-here _ _ _ (sym (c .before .before .is-word-in-any-case2 .ensures) ∙ c .before .if2 .taken))
-    (c .color2 .ensures) tt (omega arith)
-
-slice-aggregate-is-word-in-any-case-3 : tie.Need-slice-aggregate-is-word-in-any-case-3
-slice-aggregate-is-word-in-any-case-3 c = search needs
-
-is-word-in-any-case-requires-3 : tie.Need-is-word-in-any-case-requires-3
-is-word-in-any-case-requires-3 c κs = search needs
-
-color-requires-3 : tie.Need-color-requires-3
-color-requires-3 c κs = search needs
-
-returns-3 : tie.Need-returns-3
-returns-3 c =
-    word-read _ _ _ _ _
-    (lookup-on _ _ _ (sym (c .before .before .before .before .before .before .before .before .is-word-in-any-case .ensures) ∙ c .before .before .before .before .before .before .before .if1 .left) ∙ lookup-on _ _ _ (sym (c .before .before .before .before .before .is-word-in-any-case2 .ensures) ∙ c .before .before .before .before .if2 .left) ∙ lookup-here _ _ _ (sym (c .before .before .is-word-in-any-case3 .ensures) ∙ c .before .if3 .taken))
-    (c .color3 .ensures) tt (omega arith)
-
-slice-aggregate-is-word-in-any-case-4 : tie.Need-slice-aggregate-is-word-in-any-case-4
-slice-aggregate-is-word-in-any-case-4 c = search needs
-
-is-word-in-any-case-requires-4 : tie.Need-is-word-in-any-case-requires-4
-is-word-in-any-case-requires-4 c κs = search needs
-
-color-requires-4 : tie.Need-color-requires-4
-color-requires-4 c κs = search needs
-
-returns-4 : tie.Need-returns-4
-returns-4 c =
-    word-read _ _ _ _ _
-    (lookup-on _ _ _ (sym (c .before .before .before .before .before .before .before .before .before .before .before .is-word-in-any-case .ensures) ∙ c .before .before .before .before .before .before .before .before .before .before .if1 .left) ∙ lookup-on _ _ _ (sym (c .before .before .before .before .before .before .before .before .is-word-in-any-case2 .ensures) ∙ c .before .before .before .before .before .before .before .if2 .left) ∙ lookup-on _ _ _ (sym (c .before .before .before .before .before .is-word-in-any-case3 .ensures) ∙ c .before .before .before .before .if3 .left) ∙ lookup-here _ _ _ (sym (c .before .before .is-word-in-any-case4 .ensures) ∙ c .before .if4 .taken))
-    (c .color4 .ensures) tt (omega arith)
-
-later-color-requires : tie.Need-later-color-requires
-later-color-requires c κs = search needs
-
-returns-5 : tie.Need-returns-5
-returns-5 c =
-    (c .later-color .ensures .0 ∙ sym (same-sense _ _ _ (lookup-on _ _ _ (sym (c .before .before .before .before .before .before .before .before .before .before .before .is-word-in-any-case .ensures) ∙ c .before .before .before .before .before .before .before .before .before .before .if1 .left) ∙ lookup-on _ _ _ (sym (c .before .before .before .before .before .before .before .before .is-word-in-any-case2 .ensures) ∙ c .before .before .before .before .before .before .before .if2 .left) ∙ lookup-on _ _ _ (sym (c .before .before .before .before .before .is-word-in-any-case3 .ensures) ∙ c .before .before .before .before .if3 .left) ∙ lookup-on _ _ _ (sym (c .before .before .is-word-in-any-case4 .ensures) ∙ c .before .if4 .left))), c .later-color .ensures .1)
+unfolding compared
+returns-2 c = word-read _ _ _ _ (listed colours _ _ (c .before .before .word-index .ensures) _ (c .color-at .ensures)) tt (omega arith)
 
 pub color-from-str-spec : {M : Type 1} → statement M
 color-from-str-spec =
     tie.close
     (tie.spec
-    slice-aggregate-is-word-in-any-case
-    is-word-in-any-case-requires
-    color-requires
+    slice-aggregate-word-index
+    slice-aggregate-word-index-2
+    word-index-requires
     returns
-    slice-aggregate-is-word-in-any-case-2
-    is-word-in-any-case-requires-2
-    color-requires-2
-    returns-2
-    slice-aggregate-is-word-in-any-case-3
-    is-word-in-any-case-requires-3
-    color-requires-3
-    returns-3
-    slice-aggregate-is-word-in-any-case-4
-    is-word-in-any-case-requires-4
-    color-requires-4
-    returns-4
-    later-color-requires
-    returns-5)
+    color-at-requires
+    returns-2)

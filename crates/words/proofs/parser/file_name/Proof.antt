@@ -4,10 +4,9 @@ use native.Mathlib.Omega.{arith}
 use borrow.Author.Tests.{not-true, not-false}
 use Prim.Native.Nat.{_-_}
 use mathlib.Core.Path.{sym, _∙_}
-use Rattle.text.specs.Bytes.{part}
-use Rattle.text.proofs.Parts.{part-length}
-use Rattle.words.specs.Trying.{tellMetadata}
-use Rattle.words.specs.Within.{MetadataWithin}
+use Rattle.buffer.specs.Bytes.{part}
+use Rattle.buffer.proofs.Parts.{part-length}
+use Rattle.words.specs.Within.{tellMetadata, MetadataWithin}
 use Rattle.words.proofs.Naming.{no-name, other-name, file-name, too-many-f, sensed-fit, sensed-misfit, sensed-refused}
 use Rattle.words.proofs.parser.file_name.Statement.{statement}
 use Rattle.words.proofs.parser.file_name.Tie as tie

@@ -2,11 +2,10 @@
 use borrow.Author.Needs.{needs}
 use native.Mathlib.Omega.{arith}
 use mathlib.Core.Path.{refl, sym}
-use Rattle.text.specs.Bytes.{same}
-use Rattle.text.specs.Table.{lookup}
-use Rattle.words.specs.Trying.{tellMetadata}
-use Rattle.words.specs.Within.{MetadataWithin}
-use Rattle.words.specs.Words.{specifierOf, orRepeatedF, repeatedF, fileName}
+use Rattle.buffer.specs.Bytes.{same}
+use Rattle.buffer.specs.Table.{lookup}
+use Rattle.words.specs.Within.{tellMetadata, MetadataWithin}
+use Rattle.words.specs.Words.{specifierOf, orRepeatedF, repeatedF, countOfF}
 use Rattle.words.proofs.Naming.{letter-fit, letter-misfit}
 use Rattle.words.proofs.parser.letter_metadata.Statement.{statement}
 use Rattle.words.proofs.parser.letter_metadata.Tie as tie
@@ -39,35 +38,35 @@ add-t21 : tie.Need-add-t21
 add-t21 c = search needs
 
 returns : tie.Need-returns
-unfolding specifierOf orRepeatedF repeatedF fileName lookup same
+unfolding specifierOf orRepeatedF repeatedF countOfF lookup same
 returns c = letter-fit _ _ 0x63 _ (c .match .keys1) refl tt
 
 returns-2 : tie.Need-returns-2
-unfolding specifierOf orRepeatedF repeatedF fileName lookup same
+unfolding specifierOf orRepeatedF repeatedF countOfF lookup same
 returns-2 c = letter-fit _ _ 0x66 _ (c .match .keys2) refl (omega arith)
 
 returns-3 : tie.Need-returns-3
-unfolding specifierOf orRepeatedF repeatedF fileName lookup same
+unfolding specifierOf orRepeatedF repeatedF countOfF lookup same
 returns-3 c = letter-fit _ _ 0x46 _ (c .match .keys3) refl tt
 
 returns-4 : tie.Need-returns-4
-unfolding specifierOf orRepeatedF repeatedF fileName lookup same
+unfolding specifierOf orRepeatedF repeatedF countOfF lookup same
 returns-4 c = letter-fit _ _ 0x6C _ (c .match .keys4) refl tt
 
 returns-5 : tie.Need-returns-5
-unfolding specifierOf orRepeatedF repeatedF fileName lookup same
+unfolding specifierOf orRepeatedF repeatedF countOfF lookup same
 returns-5 c = letter-fit _ _ 0x73 _ (c .match .keys5) refl tt
 
 returns-6 : tie.Need-returns-6
-unfolding specifierOf orRepeatedF repeatedF fileName lookup same
+unfolding specifierOf orRepeatedF repeatedF countOfF lookup same
 returns-6 c = letter-fit _ _ 0x4C _ (c .match .keys6) refl tt
 
 returns-7 : tie.Need-returns-7
-unfolding specifierOf orRepeatedF repeatedF fileName lookup same
+unfolding specifierOf orRepeatedF repeatedF countOfF lookup same
 returns-7 c = letter-fit _ _ 0x6D _ (c .match .keys7) refl tt
 
 returns-8 : tie.Need-returns-8
-unfolding specifierOf orRepeatedF repeatedF fileName lookup same
+unfolding specifierOf orRepeatedF repeatedF countOfF lookup same
 returns-8 c = letter-fit _ _ 0x74 _ (c .match .keys8) refl tt
 
 returns-9 : tie.Need-returns-9

@@ -2,8 +2,7 @@
 use borrow.Author.Needs.{needs}
 use native.Mathlib.Omega.{arith}
 use mathlib.Core.Path.{sym}
-use Rattle.words.specs.Trying.{tellFormat}
-use Rattle.words.specs.Within.{FormatWithin}
+use Rattle.words.specs.Within.{tellFormat, FormatWithin}
 use Rattle.words.proofs.Asking.{digits-none, digits-wide, digits-fit}
 use Rattle.words.proofs.parser.parse_digits.Statement.{statement}
 use Rattle.words.proofs.parser.parse_digits.Tie as tie

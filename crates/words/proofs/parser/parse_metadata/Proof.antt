@@ -2,8 +2,7 @@
 use borrow.Author.Needs.{needs}
 use native.Mathlib.Omega.{arith}
 use mathlib.Core.Path.{sym, _∙_}
-use Rattle.words.specs.Trying.{tellMetadata}
-use Rattle.words.specs.Within.{MetadataWithin}
+use Rattle.words.specs.Within.{tellMetadata, MetadataWithin}
 use Rattle.words.specs.Words.{specifierOf, specifierAt}
 use Rattle.words.proofs.Answers.{metadata-wider}
 use Rattle.words.proofs.Naming.{name-touches, name-sensed, letter-alone}

@@ -2,9 +2,8 @@
 use borrow.Author.Needs.{needs}
 use native.Mathlib.Omega.{arith}
 use mathlib.Core.Path.{sym, _∙_}
-use Rattle.text.specs.Bytes.{part}
-use Rattle.words.specs.Trying.{tellFormat}
-use Rattle.words.specs.Within.{FormatWithin}
+use Rattle.buffer.specs.Bytes.{part}
+use Rattle.words.specs.Within.{tellFormat, FormatWithin}
 use Rattle.words.specs.Words.{parameterOf}
 use Rattle.words.proofs.Answers.{format-first, format-stopped, format-other, format-wider}
 use Rattle.words.proofs.Asking.{parameter-tried, no-parameter}

@@ -2,10 +2,9 @@
 use borrow.Author.Needs.{needs}
 use native.Mathlib.Omega.{arith}
 use mathlib.Core.Path.{refl, sym, _∙_}
-use Rattle.text.specs.Bytes.{same}
-use Rattle.text.specs.Table.{lookup}
-use Rattle.words.specs.Trying.{tellFormat}
-use Rattle.words.specs.Within.{FormatWithin}
+use Rattle.buffer.specs.Bytes.{same}
+use Rattle.buffer.specs.Table.{lookup}
+use Rattle.words.specs.Within.{tellFormat, FormatWithin}
 use Rattle.words.proofs.Answers.{format-wider}
 use Rattle.words.proofs.Asking.{width-end, width-aligned, width-plain}
 use Rattle.words.proofs.parser.parse_width_and_alignment.Statement.{statement}

@@ -1,0 +1,3 @@
+pub mod Braces
+pub mod Within
+pub mod Computing

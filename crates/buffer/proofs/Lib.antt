@@ -1,0 +1,4 @@
+pub mod Parts
+pub mod Sameness
+pub mod Writing
+pub mod Tables

@@ -1,0 +1,4 @@
+pub mod Buffer
+pub mod Bytes
+pub mod Table
+pub mod Computing

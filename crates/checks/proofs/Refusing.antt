@@ -1,0 +1,103 @@
+-- Laws of the refusals of a record: which test gives which, and in what order. Assumes nothing.
+use mathlib.Core.Path.{_≡_, refl, ap, sym, _∙_}
+use mathlib.Core.Bool.{Bool, true, false, not, _||_, _&&_}
+use mathlib.Core.List.{List}
+use Prim.Native.Nat.{ℕ, _-_, _/_, _%_, _≤_, _<_}
+use lib.Dec.{eqb}
+use borrow.Author.Tests.{le-leb, lt-leb}
+use Rattle.utf8.specs.Utf8.{valid}
+use lib.ListN.{length}
+use Rattle.buffer.specs.Bytes.{part}
+use Rattle.buffer.specs.Table.{Maybe, none, some}
+use Rattle.buffer.proofs.Parts.{part-length}
+use Rattle.refusals.specs.declared.Refusal.{Refusal}
+use Rattle.record.specs.declared.Places.{Places}
+use Rattle.record.specs.Layout.{Laid}
+use Rattle.record.specs.Placed.{laidBy, PlacesWithin}
+use Rattle.checks.specs.Checks.{badNumbers, absentButThere, badlyMarked, fieldRefusal, orNext, fieldsRefusal, recordRefusal}
+use Rattle.record.specs.Contents.{hasFile, hasLine, hasModule}
+
+-- ---- four tests, one after the other
+
+module _ (a b c e : Bool) where
+  pub at-first : a ≡ true → true ≡ (a || b || c || e)
+  at-first p = rw p
+
+  pub at-second : a ≡ false → b ≡ true → true ≡ (a || b || c || e)
+  at-second p q = rw (p, q)
+
+  pub at-third : a ≡ false → b ≡ false → c ≡ true → true ≡ (a || b || c || e)
+  at-third p q r = rw (p, q, r)
+
+  pub at-last : a ≡ false → b ≡ false → c ≡ false → e ≡ (a || b || c || e)
+  at-last p q r = rw (p, q, r)
+
+-- ---- refusal 14
+
+-- the parts of refusal 14, told of places
+pub marked : (p : Places) (d : List ℕ) → PlacesWithin (length d) p → badlyMarked (laidBy p d)
+    ≡ (badNumbers (p .source) (p .level) (p .mask)
+    || absentButThere (eqb (p .mask % 2) 1) (p .«file_to» - p .«file_from»)
+    || absentButThere (eqb (p .mask / 2 % 2) 1) (p .line)
+    || absentButThere (eqb (p .mask / 4 % 2) 1) (p .«module_to» - p .«module_from»))
+unfolding badlyMarked hasFile hasLine hasModule laidBy
+marked p d w =
+    rw (
+      part-length d (p .«file_from») (p .«file_to») (w .file .0) (w .file .1),
+      part-length d (p .«module_from») (p .«module_to») (w .modulePath .0) (w .modulePath .1),
+    )
+
+pub refused-marks : (l : Laid) → badlyMarked l ≡ true → recordRefusal l ≡ some Refusal.NotARecord
+unfolding recordRefusal
+refused-marks l e = rw (e, recordRefusal)
+
+pub past-marks : (l : Laid) → badlyMarked l ≡ false → recordRefusal l ≡ fieldsRefusal l
+unfolding recordRefusal
+past-marks l e = rw (e, recordRefusal)
+
+-- ---- refusals 11 and 12 of one text
+
+module _ (t : List ℕ) where
+  pub too-long : 4096 < length t → fieldRefusal t ≡ some Refusal.FieldTooLong
+  unfolding fieldRefusal
+  too-long h = rw (lt-leb (length t) 4096 h, fieldRefusal)
+
+  module _ (h : length t ≤ 4096) where
+    pub accepted : valid t ≡ true → fieldRefusal t ≡ none
+    unfolding fieldRefusal
+    accepted e = rw (le-leb (length t) 4096 h, e, fieldRefusal)
+
+    pub not-utf8 : valid t ≡ false → fieldRefusal t ≡ some Refusal.FieldNotUtf8
+    unfolding fieldRefusal
+    not-utf8 e = rw (le-leb (length t) 4096 h, e, fieldRefusal)
+
+-- ---- the texts in turn
+
+or-stop : (x : Maybe Refusal) (k : Unit {0} → Maybe Refusal) (r : Refusal) → x ≡ some r → orNext x k ≡ x
+unfolding orNext
+or-stop none k r e = cc
+or-stop (some x) k r e = refl
+
+or-on : (x : Maybe Refusal) (k : Unit {0} → Maybe Refusal) → x ≡ none → orNext x k ≡ k tt
+unfolding orNext
+or-on none k e = refl
+or-on (some x) k e = cc
+
+module _ (l : Laid) where
+  pub at-file : (r : Refusal) → fieldRefusal (l .file) ≡ some r → fieldsRefusal l ≡ fieldRefusal (l .file)
+  unfolding fieldsRefusal
+  at-file r e = or-stop _ _ r e
+
+  module _ (f : fieldRefusal (l .file) ≡ none) where
+    pub at-module : (r : Refusal) → fieldRefusal (l .modulePath) ≡ some r → fieldsRefusal l ≡ fieldRefusal (l .modulePath)
+    unfolding fieldsRefusal
+    at-module r e = or-on _ _ f ∙ or-stop _ _ r e
+
+    module _ (m : fieldRefusal (l .modulePath) ≡ none) where
+      pub at-timestamp : (r : Refusal) → fieldRefusal (l .timestamp) ≡ some r → fieldsRefusal l ≡ fieldRefusal (l .timestamp)
+      unfolding fieldsRefusal
+      at-timestamp r e = or-on _ _ f ∙ or-on _ _ m ∙ or-stop _ _ r e
+
+      pub at-message : fieldRefusal (l .timestamp) ≡ none → fieldsRefusal l ≡ fieldRefusal (l .message)
+      unfolding fieldsRefusal
+      at-message t = or-on _ _ f ∙ or-on _ _ m ∙ or-on _ _ t

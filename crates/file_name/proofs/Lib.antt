@@ -1,0 +1,2 @@
+pub mod Slashing
+pub mod Turns

@@ -1,0 +1,164 @@
+-- How long the text of a specifier is at most, where the record's texts are short. Assumes nothing.
+use Prim.Native.Nat.{ℕ, zero, suc, _+_, _*_, _-_, _/_, _%_, _≤_}
+use mathlib.Core.Path.{_≡_, refl}
+use mathlib.Core.Bool.{Bool, true, false}
+use mathlib.Core.List.{List, [], _∷_, _++_}
+use native.Mathlib.Omega.{arith}
+use native.Mathlib.Decide.{decLt}
+use borrow.Author.Tests.{lt-ltb, le-ltb}
+use lib.Dec.{eqb}
+use lib.ListN.{length, drop, length-append}
+use Rattle.buffer.specs.Bytes.{bytes, same}
+use Rattle.buffer.specs.Table.{Maybe, none, some}
+use Rattle.words.specs.declared.LogMetadata.{LogMetadata}
+use Rattle.words.specs.declared.LogMetadata.the-variants.{CrateName, FileName, FilePath, LineNumber, Log, LogLevel, ModulePath, Timestamp}
+use Rattle.record.specs.declared.Source.{Source}
+use Rattle.record.specs.declared.Level.{Level}
+use Rattle.record.specs.declared.Level.the-variants.{Print, Error, Warn, Info, Debug, Trace}
+use Rattle.record.specs.Layout.{Laid}
+use Rattle.record.specs.Contents.{sourceOf, levelOf, hasFile, hasModule, givenIf, recordOf}
+use Rattle.formats.specs.Levels.{nameOf}
+use Rattle.paths.specs.Paths.{before-first, pieces, isDropped, kept, root, components, lastOf, slashed, joinedBySlash, fileName, after-byte, beforeColons}
+use Rattle.fields.specs.Texts.{noCrate, noFile, noModule, noTime, orPlaceholder, there, digits, decimalText, notEmpty, timeOf, wording}
+use Rattle.leaves.specs.Places.{Short}
+
+-- a text of n bytes at most, if there is one
+abbrev Within : ℕ → Maybe (List ℕ) → Type 0
+Within n none = Unit {0}
+Within n (some t) = length t ≤ n
+
+placeholder : (p : List ℕ) (y : Maybe (List ℕ)) (n : ℕ) → length p ≤ n → Within n y → length (orPlaceholder p y) ≤ n
+unfolding orPlaceholder
+placeholder p none n h g = h
+placeholder p (some t) n h g = g
+
+there-within : (f : List ℕ → Maybe (List ℕ)) (b : Bool) (t : List ℕ) (n : ℕ) → Within n (f t) → Within n (there f (givenIf b t))
+unfolding there givenIf
+there-within f true t n h = h
+there-within f false t n h = tt
+
+-- ---- the crate of a module path
+
+after-within : (b n : ℕ) (y : Maybe (List ℕ)) → Within n y → Within (suc n) (after-byte b y)
+unfolding after-byte
+after-within b n none h = tt
+after-within b n (some t) h = omega arith
+
+colons-within : (x : List ℕ) → Within (length x) (beforeColons x)
+unfolding beforeColons
+colons-within [] = tt
+colons-within (a ∷ []) = tt
+colons-within (a ∷ (b ∷ s)) = by (same (bytes "::") (a ∷ b ∷ [])) (colons-within (b ∷ s))
+  where
+    by : (v : Bool) → Within (suc (length s)) (beforeColons (b ∷ s))
+        → Within (suc (suc (length s))) (elim v [ true ↦ some [] | false ↦ after-byte a (beforeColons (b ∷ s)) ])
+    by true h = omega arith
+    by false h = after-within a (suc (length s)) (beforeColons (b ∷ s)) h
+
+-- ---- paths
+
+slashed-more : (x : List ℕ) (xs : List (List ℕ)) → length (slashed (x ∷ xs)) ≡ 1 + (length x + length (slashed xs))
+unfolding slashed
+slashed-more x xs = omega (arith, length-append x (slashed xs))
+
+first-small : (b : ℕ) (xs : List (List ℕ)) → length (slashed (before-first b xs)) ≤ length (slashed xs) + 2
+unfolding before-first slashed
+first-small b [] = omega arith
+first-small b (x ∷ xs) = omega (arith, slashed-more (b ∷ x) xs, slashed-more x xs)
+
+pieces-small : (x : List ℕ) → length (slashed (pieces x)) ≤ 2 * length x + 1
+unfolding pieces slashed
+pieces-small [] = omega arith
+pieces-small (b ∷ s) = by (eqb b 0x2F) refl (pieces-small s)
+  where
+    by : (v : Bool) → eqb b 0x2F ≡ v → length (slashed (pieces s)) ≤ 2 * length s + 1 → length (slashed (pieces (b ∷ s))) ≤ 2 * length (b ∷ s) + 1
+    by true e h = let z : length (slashed (pieces (b ∷ s))) ≡ length (slashed ([] ∷ pieces s)) = rw (e, pieces) in omega (arith, slashed-more [] (pieces s))
+    by false e h = let z : length (slashed (pieces (b ∷ s))) ≡ length (slashed (before-first b (pieces s))) = rw (e, pieces) in omega (arith, first-small b (pieces s))
+
+kept-small : (xs : List (List ℕ)) → length (slashed (kept xs)) ≤ length (slashed xs)
+unfolding kept
+kept-small [] = omega arith
+kept-small (x ∷ xs) = by (isDropped x) refl (kept-small xs)
+  where
+    by : (v : Bool) → isDropped x ≡ v → length (slashed (kept xs)) ≤ length (slashed xs) → length (slashed (kept (x ∷ xs))) ≤ length (slashed (x ∷ xs))
+    by true e h = let z : length (slashed (kept (x ∷ xs))) ≡ length (slashed (kept xs)) = rw (e, kept) in omega (arith, slashed-more x xs)
+    by false e h = let z : length (slashed (kept (x ∷ xs))) ≡ length (slashed (x ∷ kept xs)) = rw (e, kept) in omega (arith, slashed-more x xs, slashed-more x (kept xs))
+
+root-small : (x : List ℕ) (ys : List (List ℕ)) → length (slashed (root x ++ ys)) ≤ length (slashed ys) + 2
+unfolding root
+root-small [] ys = omega arith
+root-small (b ∷ s) ys = by (eqb b 0x2F) refl
+  where
+    by : (v : Bool) → eqb b 0x2F ≡ v → length (slashed (root (b ∷ s) ++ ys)) ≤ length (slashed ys) + 2
+    by true e = let z : length (slashed (root (b ∷ s) ++ ys)) ≡ length (slashed (bytes "/" ∷ ys)) = rw (e, root) in omega (arith, slashed-more (bytes "/") ys)
+    by false e = let z : length (slashed (root (b ∷ s) ++ ys)) ≡ length (slashed ys) = rw (e, root) in omega arith
+
+drop-small : (n : ℕ) (xs : List (List ℕ)) → length (slashed (drop n xs)) ≤ length (slashed xs)
+drop-small zero xs = omega arith
+drop-small (suc n) [] = omega arith
+drop-small (suc n) (x ∷ xs) = omega (arith, drop-small n xs, slashed-more x xs)
+
+joined-within : (xs : List (List ℕ)) (n : ℕ) → length (slashed xs) ≤ n → Within n (joinedBySlash xs)
+unfolding joinedBySlash
+joined-within [] n h = tt
+joined-within (x ∷ xs) n h = omega (arith, slashed-more x xs, length-append x (slashed xs))
+
+name-within : (n : ℕ) (x : List ℕ) → Within (2 * length x + 3) (fileName n x)
+unfolding fileName lastOf components
+name-within n x =
+    let xs = components x in
+    joined-within (drop (length xs - n) xs) (2 * length x + 3)
+    (omega (arith, drop-small (length xs - n) xs, root-small x (kept (pieces x)), kept-small (pieces x), pieces-small x))
+
+-- ---- numbers, levels and times
+
+digits-small : (k n : ℕ) → length (digits k n) ≤ k
+unfolding digits
+digits-small zero n = omega arith
+digits-small (suc k) n = elim (decLt n 10) [
+  | yes h ↦ let z : length (digits (suc k) n) ≡ 1 = rw (lt-ltb n 10 h, digits) in omega arith
+  | no h ↦
+      let z : length (digits (suc k) n) ≡ length (digits k (n / 10) ++ (0x30 + n % 10) ∷ []) = rw (le-ltb n 10 (omega arith), digits) in
+      omega (arith, length-append (digits k (n / 10)) ((0x30 + n % 10) ∷ []), digits-small k (n / 10))
+]
+
+name-small : (l : Level) → length (nameOf l) ≤ 5
+name-small Print = omega arith
+name-small Error = omega arith
+name-small Warn = omega arith
+name-small Info = omega arith
+name-small Debug = omega arith
+name-small Trace = omega arith
+
+time-within : (q : Source) (t : List ℕ) → Within (length t) (timeOf q t)
+unfolding timeOf notEmpty
+time-within Source.Defmt [] = tt
+time-within Source.Defmt (b ∷ t) = omega arith
+time-within Source.Host t = tt
+
+weaker : (y : Maybe (List ℕ)) (m n : ℕ) → m ≤ n → Within m y → Within n y
+weaker none m n h g = tt
+weaker (some t) m n h g = omega arith
+
+-- 8,192 bytes and a few: twice the longest file, since a path by components is counted coarsely
+pub wording-short : (d : Laid) → Short d → (m : LogMetadata) → length (wording (recordOf d) m) ≤ 8200
+unfolding recordOf wording decimalText
+wording-short d h CrateName =
+    placeholder noCrate (there beforeColons (givenIf (hasModule d) (d .modulePath))) 8200 (omega arith)
+    (there-within beforeColons (hasModule d) (d .modulePath) 8200
+    (weaker (beforeColons (d .modulePath)) (length (d .modulePath)) 8200 (omega (arith, h .modulePath)) (colons-within (d .modulePath))))
+wording-short d h (FileName n) =
+    placeholder noFile (there (fileName n) (givenIf (hasFile d) (d .file))) 8200 (omega arith)
+    (there-within (fileName n) (hasFile d) (d .file) 8200 (weaker (fileName n (d .file)) (2 * length (d .file) + 3) 8200 (omega (arith, h .file)) (name-within n (d .file))))
+wording-short d h FilePath =
+    placeholder noFile (there some (givenIf (hasFile d) (d .file))) 8200 (omega arith)
+    (there-within some (hasFile d) (d .file) 8200 (omega (arith, h .file)))
+wording-short d h LineNumber = omega (arith, digits-small 10 (d .line))
+wording-short d h Log = omega (arith, h .message)
+wording-short d h LogLevel = omega (arith, name-small (levelOf (d .level)))
+wording-short d h ModulePath =
+    placeholder noModule (there some (givenIf (hasModule d) (d .modulePath))) 8200 (omega arith)
+    (there-within some (hasModule d) (d .modulePath) 8200 (omega (arith, h .modulePath)))
+wording-short d h Timestamp =
+    placeholder noTime (timeOf (sourceOf (d .source)) (d .timestamp)) 8200 (omega arith)
+    (weaker (timeOf (sourceOf (d .source)) (d .timestamp)) (length (d .timestamp)) 8200 (omega (arith, h .timestamp)) (time-within (sourceOf (d .source)) (d .timestamp)))

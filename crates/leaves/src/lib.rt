@@ -1,0 +1,111 @@
+// The segments that hold no other: parts of the template, and what specifiers show of a record.
+use buffer::numbers::least;
+use buffer::put;
+use fields::Wording;
+use fields::wording_of;
+use measure::Measure;
+use measure::growing::add;
+use pool::cell_at;
+use record::Places;
+use wording::add_wording;
+use wording::put_wording;
+use wording::wording_len;
+use words::LogMetadata;
+ghost use mathlib.Core.Path.{_≡_};
+ghost use Prim.Native.Nat.{_+_, _<_, _≤_, _^_};
+ghost use lib.ListN.{length};
+ghost use Rattle.buffer.specs.Bytes.{part};
+ghost use Rattle.buffer.specs.Buffer.{Puts};
+ghost use Rattle.measure.specs.Measures.{grown, Small};
+ghost use Rattle.segments.specs.Pool.{cell};
+ghost use Rattle.record.specs.Placed.{PlacesWithin};
+ghost use Rattle.fields.specs.Texts.{wording};
+ghost use Rattle.fields.specs.Wordings.{Tells};
+ghost use Rattle.leaves.specs.Places.{placesOf, recordBy};
+
+// The text at i, which is a part of the template, on top of a measure. Its places are cut to the template, so that any will do.
+pub fn add_text(cells: &[usize], t: &[u8], i: usize, a: Measure) -> Measure
+    requires { ⌜ (512 ≤ length (now cells)) × (i < 64) ⌝ }
+    requires { ⌜ (Small a) × (a .len + length (part (cell (now cells) i 1) (cell (now cells) i 2) (now t)) < 2 ^ 58) ⌝ }
+    ensures { λ r. ⌜ r ≡ grown a (part (cell (now (cells .entry)) i 1) (cell (now (cells .entry)) i 2) (now (t .entry))) ⌝ }
+{
+    let to = least(cell_at(cells, i, 2), t.len());
+    let from = least(cell_at(cells, i, 1), to);
+    add(a, &t[from..to])
+}
+
+pub fn text_len(cells: &[usize], t: &[u8], i: usize) -> usize
+    requires { ⌜ (512 ≤ length (now cells)) × (i < 64) ⌝ }
+    ensures { λ r. ⌜ r ≡ length (part (cell (now (cells .entry)) i 1) (cell (now (cells .entry)) i 2) (now (t .entry))) ⌝ }
+{
+    let to = least(cell_at(cells, i, 2), t.len());
+    let from = least(cell_at(cells, i, 1), to);
+    to - from
+}
+
+pub fn put_text(cells: &[usize], t: &[u8], i: usize, out: &mut [u8], at: usize) -> usize
+    requires { ⌜ (512 ≤ length (now cells)) × (i < 64) ⌝ }
+    requires { ⌜ at + length (part (cell (now cells) i 1) (cell (now cells) i 2) (now t)) ≤ length (now out) ⌝ }
+    ensures { λ r. ⌜ Puts (now (out .entry)) (now (out .exit)) at (part (cell (now (cells .entry)) i 1) (cell (now (cells .entry)) i 2) (now (t .entry))) r ⌝ }
+{
+    let to = least(cell_at(cells, i, 2), t.len());
+    let from = least(cell_at(cells, i, 1), to);
+    put(out, at, &t[from..to])
+}
+
+// What the specifier m shows, on top of a measure.
+pub fn add_field(d: &[u8], numbers: &[usize], m: LogMetadata, a: Measure) -> Measure
+    requires { ⌜ (12 ≤ length (now numbers)) × PlacesWithin (length (now d)) (placesOf (now numbers)) ⌝ }
+    requires { ⌜ (Small a) × (a .len + length (wording (recordBy (now numbers) (now d)) m) < 2 ^ 58) ⌝ }
+    ensures { λ r. ⌜ r ≡ grown a (wording (recordBy (now (numbers .entry)) (now (d .entry))) m) ⌝ }
+{
+    let w = wording_at(d, numbers, m);
+    add_wording(d, w, a)
+}
+
+pub fn field_len(d: &[u8], numbers: &[usize], m: LogMetadata) -> usize
+    requires { ⌜ (12 ≤ length (now numbers)) × PlacesWithin (length (now d)) (placesOf (now numbers)) ⌝ }
+    requires { ⌜ length (wording (recordBy (now numbers) (now d)) m) < 2 ^ 58 ⌝ }
+    ensures { λ r. ⌜ r ≡ length (wording (recordBy (now (numbers .entry)) (now (d .entry))) m) ⌝ }
+{
+    let w = wording_at(d, numbers, m);
+    wording_len(d, w)
+}
+
+pub fn put_field(d: &[u8], numbers: &[usize], m: LogMetadata, out: &mut [u8], at: usize) -> usize
+    requires { ⌜ (12 ≤ length (now numbers)) × PlacesWithin (length (now d)) (placesOf (now numbers)) ⌝ }
+    requires { ⌜ at + length (wording (recordBy (now numbers) (now d)) m) ≤ length (now out) ⌝ }
+    ensures { λ r. ⌜ Puts (now (out .entry)) (now (out .exit)) at (wording (recordBy (now (numbers .entry)) (now (d .entry))) m) r ⌝ }
+{
+    let w = wording_at(d, numbers, m);
+    put_wording(d, w, out, at)
+}
+
+fn wording_at(d: &[u8], numbers: &[usize], m: LogMetadata) -> Wording
+    requires { ⌜ (12 ≤ length (now numbers)) × PlacesWithin (length (now d)) (placesOf (now numbers)) ⌝ }
+    ensures { λ r. ⌜ Tells r (now (d .entry)) (wording (recordBy (now (numbers .entry)) (now (d .entry))) m) ⌝ }
+{
+    let p = places_at(numbers);
+    wording_of(d, p, m)
+}
+
+// The record's places as the lent row has them.
+fn places_at(numbers: &[usize]) -> Places
+    requires { ⌜ 12 ≤ length (now numbers) ⌝ }
+    ensures { λ r. ⌜ r ≡ placesOf (now (numbers .entry)) ⌝ }
+{
+    Places {
+        source: numbers[0],
+        level: numbers[1],
+        mask: numbers[2],
+        line: numbers[3],
+        file_from: numbers[4],
+        file_to: numbers[5],
+        module_from: numbers[6],
+        module_to: numbers[7],
+        timestamp_from: numbers[8],
+        timestamp_to: numbers[9],
+        message_from: numbers[10],
+        message_to: numbers[11],
+    }
+}

@@ -1,4 +1,0 @@
-pub mod Links
-pub mod Places
-pub mod Texts
-pub mod Rows

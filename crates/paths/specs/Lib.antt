@@ -1,0 +1,3 @@
+pub mod Paths
+pub mod Remaining
+pub mod Computing

@@ -1,0 +1,53 @@
+-- What the numbers and texts of a record mean (document 01, "Session sheet and its program"). Assumes nothing.
+use Prim.Native.Nat.{ℕ, zero, suc, _/_, _%_}
+use mathlib.Core.Bool.{Bool, true, false}
+use mathlib.Core.List.{List, [], _∷_}
+use lib.Dec.{eqb}
+use Rattle.record.specs.declared.Source.{Source}
+use Rattle.record.specs.declared.Level.{Level}
+use Rattle.record.specs.Records.{Given, absent, given, Record, levels}
+use Rattle.record.specs.Layout.{Laid}
+
+-- "presence mask (1 file, 2 line, 4 module)"
+unfoldable pub hasFile : Laid → Bool
+hasFile d = eqb (d .mask % 2) 1
+
+-- the mask marks a line
+unfoldable pub hasLine : Laid → Bool
+hasLine d = eqb (d .mask / 2 % 2) 1
+
+-- the mask marks a module
+unfoldable pub hasModule : Laid → Bool
+hasModule d = eqb (d .mask / 4 % 2) 1
+
+-- "0 device, 1 host"
+unfoldable pub sourceOf : ℕ → Source
+sourceOf zero = Source.Defmt
+sourceOf (suc n) = Source.Host
+
+-- the level with number n
+unfoldable pub levelAt : List Level → ℕ → Level
+levelAt [] n = Level.Print
+levelAt (l ∷ rest) zero = l
+levelAt (l ∷ rest) (suc n) = levelAt rest n
+
+-- "Level numbers 1 to 5 mean ERROR, WARN, INFO, DEBUG, TRACE"
+unfoldable pub levelOf : ℕ → Level
+levelOf n = levelAt levels n
+
+-- a text that is marked present, or an absent one
+unfoldable pub givenIf : Bool → List ℕ → Given
+givenIf true t = given t
+givenIf false t = absent
+
+-- the record that is laid out
+unfoldable pub recordOf : Laid → Record
+recordOf d = record {
+  source = sourceOf (d .source);
+  level = levelOf (d .level);
+  file = givenIf (hasFile d) (d .file);
+  line = d .line;
+  modulePath = givenIf (hasModule d) (d .modulePath);
+  timestamp = d .timestamp;
+  message = d .message;
+}

@@ -1,0 +1,27 @@
+-- Scaffolding, for proofs alone: a record by places in its bytes, as the code has it. Assumes nothing.
+use Prim.Native.Nat.{ℕ, _≤_, _<_, _^_}
+use mathlib.Core.List.{List}
+use Rattle.buffer.specs.Bytes.{part}
+use Rattle.record.specs.declared.Places.{Places}
+use Rattle.record.specs.Layout.{Laid}
+
+-- each text lies within n bytes, and the line number is one of 32 bits
+pub record PlacesWithin (n : ℕ) (p : Places) : Type 0 where
+  pub line : p .line < 2 ^ 32
+  pub file : (p .«file_from» ≤ p .«file_to») × (p .«file_to» ≤ n)
+  pub modulePath : (p .«module_from» ≤ p .«module_to») × (p .«module_to» ≤ n)
+  pub timestamp : (p .«timestamp_from» ≤ p .«timestamp_to») × (p .«timestamp_to» ≤ n)
+  pub message : (p .«message_from» ≤ p .«message_to») × (p .«message_to» ≤ n)
+
+-- a record as it is laid out, by places in bytes, wherever the texts stand in them
+unfoldable pub laidBy : Places → List ℕ → Laid
+laidBy p d = record {
+  source = p .source;
+  level = p .level;
+  mask = p .mask;
+  line = p .line;
+  file = part (p .«file_from») (p .«file_to») d;
+  modulePath = part (p .«module_from») (p .«module_to») d;
+  timestamp = part (p .«timestamp_from») (p .«timestamp_to») d;
+  message = part (p .«message_from») (p .«message_to») d;
+}

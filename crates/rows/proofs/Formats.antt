@@ -1,0 +1,43 @@
+-- Whether and how a segment of the pool is formatted, by its kind. Assumes nothing.
+use Prim.Native.Nat.{ℕ}
+use mathlib.Core.Path.{_≡_, sym, ap, _∙_}
+use mathlib.Core.Bool.{Bool, true, false}
+use mathlib.Core.List.{List}
+use Rattle.words.specs.declared.LogMetadata.{LogMetadata}
+use Rattle.words.specs.declared.LogFormat.{LogFormat}
+use Rattle.colour.specs.declared.Format.{Format}
+use Rattle.segments.specs.declared.Kind.{Kind}
+use Rattle.segments.specs.Pool.{kindAt, formatAt, segmentAt}
+use Rattle.segments.proofs.Chains.{segment-text, segment-group, segment-specifier}
+use Rattle.record.specs.declared.Source.{Source}
+use Rattle.record.specs.declared.Level.{Level}
+use Rattle.formats.specs.Formats.{specifierFormat, groupFormat}
+use Rattle.rows.specs.Texts.{bareFrom, isBare, formatOf}
+
+module _ (cells : List ℕ) (i : ℕ) (k : Kind) (ke : k ≡ kindAt cells i) where
+  pub text-is-bare : (q : Source) → k ≡ Kind.Text → true ≡ isBare q (segmentAt cells i)
+  unfolding isBare
+  text-is-bare q e = sym (ap (isBare q) (segment-text cells i (sym ke ∙ e)))
+
+  pub group-is-not : (q : Source) → k ≡ Kind.Group → false ≡ isBare q (segmentAt cells i)
+  unfolding isBare
+  group-is-not q e = sym (ap (isBare q) (segment-group cells i (sym ke ∙ e)))
+
+  pub specifier-is : (q p : Source) (m : LogMetadata) (b : Bool) → k ≡ Kind.Specifier m → p ≡ q → b ≡ bareFrom p m → b ≡ isBare q (segmentAt cells i)
+  unfolding isBare
+  specifier-is q p m b e pe be =
+      be ∙ ap (λ (x : Source). bareFrom x m) pe ∙ sym (ap (isBare q) (segment-specifier cells i m (sym ke ∙ e)))
+
+  pub text-format : (q : Source) (l : Level) (g : Format) → k ≡ Kind.Text → isBare q (segmentAt cells i) ≡ false → g ≡ formatOf l (segmentAt cells i)
+  text-format q l g e b = let z : true ≡ false = text-is-bare q e ∙ b in cc
+
+  pub group-format : (l r : Level) (f : LogFormat) (g : Format) → k ≡ Kind.Group → r ≡ l → f ≡ formatAt cells i → g ≡ groupFormat r f → g ≡ formatOf l (segmentAt cells i)
+  unfolding formatOf
+  group-format l r f g e re fe ge =
+      ge ∙ ap (λ (x : Level). groupFormat x f) re ∙ ap (groupFormat l) fe ∙ sym (ap (formatOf l) (segment-group cells i (sym ke ∙ e)))
+
+  pub specifier-format : (l r : Level) (m : LogMetadata) (f : LogFormat) (g : Format) → k ≡ Kind.Specifier m → r ≡ l → f ≡ formatAt cells i → g ≡ specifierFormat r m f
+      → g ≡ formatOf l (segmentAt cells i)
+  unfolding formatOf
+  specifier-format l r m f g e re fe ge =
+      ge ∙ ap (λ (x : Level). specifierFormat x m f) re ∙ ap (specifierFormat l m) fe ∙ sym (ap (formatOf l) (segment-specifier cells i m (sym ke ∙ e)))

@@ -1,0 +1,214 @@
+-- A segment's text from its text before it is formatted and the frame around it, measured. Assumes nothing.
+use Prim.Native.Nat.{ℕ, _+_, _-_, _≤_}
+use mathlib.Core.Path.{_≡_, refl, sym, ap, _∙_, subst}
+use mathlib.Core.Bool.{Bool, true, false, cond}
+use mathlib.Core.List.{List, [], _∷_, _++_}
+use native.Mathlib.Omega.{arith}
+use borrow.Author.Tests.{ne-eqb}
+use lib.Dec.{eqb}
+use lib.ListN.{length, replicate, length-append, length-replicate}
+use Rattle.colour.specs.declared.Settings.{Settings}
+use Rattle.colour.specs.declared.Format.{Format}
+use Rattle.colour.specs.Formatting.{prefixIn, inserted, padded, before, padByte, ending, framed, formatted}
+use Rattle.colour.proofs.Formatted.{before-small, padded-small, inserted-nil}
+use Rattle.colour.proofs.Measures.{length-laid, inserted-resets}
+use Rattle.measure.specs.declared.Measure.{Measure}
+use Rattle.measure.specs.Measures.{nothing, grown, more, insertedIn, paddingIn}
+use Rattle.measure.proofs.Walked.{walked, inserted-measured, padding-measured}
+use Rattle.segments.specs.Segments.{LogSegment}
+use Rattle.record.specs.Records.{Record}
+use Rattle.record.specs.Placed.{laidBy}
+use Rattle.record.specs.Contents.{recordOf}
+use Rattle.rows.specs.declared.Row.{Row}
+use Rattle.rows.specs.declared.Frame.{Frame}
+use Rattle.leaves.specs.Places.{placesOf, recordBy, sourceBy, levelBy}
+use Rattle.rows.specs.Texts.{segmentText, rawText, isBare, formatOf}
+use Rattle.rows.specs.Rows.{bareRow, rowIn, rowOf, frameBy}
+use Rattle.leaves.proofs.Cutting.{empty}
+use Rattle.rows.proofs.Segments.{segment-bare, segment-formatted}
+
+-- the prefix of a frame
+abbrev pub opening : Settings → Format → List ℕ
+opening s f = prefixIn (s .colour) (f .look)
+
+-- y is the text x in the frame w
+pub record Framed (s : Settings) (w : Frame) (x y : List ℕ) : Type 0 where
+  pub left : w .left ≡ before (w .format .alignment) (padded s (w .format) x)
+  pub right : w .right ≡ padded s (w .format) x - before (w .format .alignment) (padded s (w .format) x)
+  pub between : w .inserted ≡ inserted (opening s (w .format)) x
+  pub text : y ≡ framed (opening s (w .format)) (w .format) (padded s (w .format) x) x
+
+pub frame-made : (f g : Format) (w v : Row) (l : ℕ) → g ≡ f → v ≡ w → l ≡ before (g .alignment) (v .padding)
+    → _≡_ {A = Frame} (record { format = g; left = l; right = v .padding - l; inserted = v .inserted }) (frameBy f w)
+unfolding frameBy
+frame-made f g w v l e o h =
+    (λ j. record { format = g; left = h j; right = v .padding - h j; inserted = v .inserted }) ∙ (λ j. frameBy (e j) (o j))
+
+-- the prefix and the reset at the end
+ends-length : (p : List ℕ) → cond (eqb (length p) 0) 0 (length p + 4) ≡ length p + length (ending p)
+unfolding ending
+ends-length [] = refl
+ends-length (b ∷ p) = rw (ne-eqb (length (b ∷ p)) 0 (λ e. omega arith))
+
+module _ (s : Settings) (t : List ℕ) (r : Record) (x : LogSegment) where
+  pub row-of-bare : isBare (r .source) x ≡ true → rowOf s t r x ≡ bareRow (length (segmentText s t r x))
+  unfolding rowOf
+  row-of-bare e = rw (e, rowOf)
+
+  pub row-of-formatted : isBare (r .source) x ≡ false → rowOf s t r x ≡ rowIn s (formatOf (r .level) x) (rawText s t r x) (length (segmentText s t r x))
+  unfolding rowOf
+  row-of-formatted e = rw (e, rowOf)
+
+  pub row-length : rowOf s t r x .len ≡ length (segmentText s t r x)
+  unfolding bareRow rowIn
+  row-length = by (isBare (r .source) x) refl
+    where
+      by : (b : Bool) → isBare (r .source) x ≡ b → rowOf s t r x .len ≡ length (segmentText s t r x)
+      by true e = ap (λ (w : Row). w .len) (row-of-bare e)
+      by false e = ap (λ (w : Row). w .len) (row-of-formatted e)
+
+module _ (s : Settings) (t d numbers : List ℕ) where
+  -- a record's source and level need no bytes
+  pub bare-text : (x : LogSegment) → isBare (sourceBy numbers) x ≡ true → segmentText s t (recordBy numbers d) x ≡ rawText s t (recordBy numbers d) x
+  unfolding recordBy recordOf laidBy placesOf sourceBy
+  bare-text x e = segment-bare s t (recordBy numbers d) x e
+
+  pub formatted-text : (x : LogSegment) → isBare (sourceBy numbers) x ≡ false
+      → segmentText s t (recordBy numbers d) x ≡ formatted s (formatOf (levelBy numbers) x) (rawText s t (recordBy numbers d) x)
+  unfolding recordBy recordOf laidBy placesOf sourceBy levelBy
+  formatted-text x e = segment-formatted s t (recordBy numbers d) x e
+
+  -- ---- rows
+
+  row-is-bare : (x : LogSegment) → isBare (sourceBy numbers) x ≡ true → rowOf s t (recordBy numbers d) x ≡ bareRow (length (segmentText s t (recordBy numbers d) x))
+  unfolding recordBy recordOf laidBy placesOf sourceBy
+  row-is-bare x e = row-of-bare s t (recordBy numbers d) x e
+
+  row-formatted : (x : LogSegment) → isBare (sourceBy numbers) x ≡ false
+      → rowOf s t (recordBy numbers d) x ≡ rowIn s (formatOf (levelBy numbers) x) (rawText s t (recordBy numbers d) x) (length (segmentText s t (recordBy numbers d) x))
+  unfolding recordBy recordOf laidBy placesOf sourceBy levelBy
+  row-formatted x e = row-of-formatted s t (recordBy numbers d) x e
+
+  -- what a format adds to the bytes of a text
+  formatted-length : (x : LogSegment) (f : Format) → isBare (sourceBy numbers) x ≡ false → f ≡ formatOf (levelBy numbers) x
+      → length (segmentText s t (recordBy numbers d) x)
+      ≡ length (rawText s t (recordBy numbers d) x) + (inserted (opening s f) (rawText s t (recordBy numbers d) x) + (padded s f (rawText s t (recordBy numbers d) x) + (length (opening s f) + length (ending (opening s f)))))
+  unfolding formatted
+  formatted-length x f b e =
+      let y = rawText s t (recordBy numbers d) x in
+      omega (
+        arith,
+        ap length (formatted-text x b ∙ ap (λ (g : Format). formatted s g y) (sym e)),
+        length-laid (opening s f) f (padded s f y) y,
+        inserted-resets (opening s f) y,
+      )
+
+  pub row-bare : (x : LogSegment) (w : Row) (n : ℕ) → isBare (sourceBy numbers) x ≡ true → n ≡ length (rawText s t (recordBy numbers d) x) → w ≡ bareRow n
+      → w ≡ rowOf s t (recordBy numbers d) x
+  row-bare x w n e ne we = we ∙ ap bareRow (ne ∙ ap length (sym (bare-text x e))) ∙ sym (row-is-bare x e)
+
+  -- no width and no prefix: nothing to pad, nothing to insert
+  pub row-none : (x : LogSegment) (f : Format) (w : Row) (n : ℕ) → isBare (sourceBy numbers) x ≡ false → f ≡ formatOf (levelBy numbers) x → f .width ≡ 0
+      → length (opening s f) ≡ 0 → n ≡ length (rawText s t (recordBy numbers d) x) → w ≡ bareRow n → w ≡ rowOf s t (recordBy numbers d) x
+  unfolding bareRow rowIn ending
+  row-none x f w n b e z p ne we =
+      let y = rawText s t (recordBy numbers d) x in
+      let q = empty (opening s f) p in
+      let u : 0 ≡ padded s f y = omega (arith, padded-small s f y) in
+      let v : 0 ≡ inserted (opening s f) y = sym (ap (λ (k : List ℕ). inserted k y) q ∙ inserted-nil y) in
+      let l : n ≡ length (segmentText s t (recordBy numbers d) x) = omega (arith, formatted-length x f b e, ap (λ (k : List ℕ). length (ending k)) q) in
+      we ∙ (λ j. record { padding = u j; inserted = v j; len = l j })
+      ∙ ap (λ (g : Format). rowIn s g y (length (segmentText s t (recordBy numbers d) x))) e ∙ sym (row-formatted x b)
+
+  -- else all come from the measure of the text and the length of the prefix
+  module _ (x : LogSegment) (f : Format) (m : Measure) (n p q e : ℕ) (b : isBare (sourceBy numbers) x ≡ false) (fe : f ≡ formatOf (levelBy numbers) x)
+      (me : m ≡ grown nothing (rawText s t (recordBy numbers d) x)) (ne : n ≡ insertedIn s f m) (pe : p ≡ paddingIn s f m n) (qe : q ≡ length (opening s f))
+      (ee : e ≡ cond (eqb q 0) 0 (q + 4)) where
+    inserted-is : n ≡ inserted (opening s f) (rawText s t (recordBy numbers d) x)
+    inserted-is = ne ∙ ap (insertedIn s f) me ∙ inserted-measured s f (rawText s t (recordBy numbers d) x)
+
+    padded-is : p ≡ padded s f (rawText s t (recordBy numbers d) x)
+    padded-is =
+        let y = rawText s t (recordBy numbers d) x in
+        pe ∙ ap (λ (k : Measure). paddingIn s f k n) me ∙ ap (paddingIn s f (grown nothing y)) inserted-is ∙ padding-measured s f y
+
+    pub row-counted : m .len + (n + (p + e)) ≡ length (segmentText s t (recordBy numbers d) x)
+    row-counted =
+        omega (
+          arith,
+          ap (λ (k : Measure). k .len) me,
+          inserted-is,
+          padded-is,
+          ee ∙ ap (λ (k : ℕ). cond (eqb k 0) 0 (k + 4)) qe ∙ ends-length (opening s f),
+          formatted-length x f b fe,
+        )
+
+    pub row-made : _≡_ {A = Row} (record { padding = p; inserted = n; len = m .len + (n + (p + e)) }) (rowOf s t (recordBy numbers d) x)
+    unfolding rowIn
+    row-made =
+        let y = rawText s t (recordBy numbers d) x in
+        (λ j. record { padding = padded-is j; inserted = inserted-is j; len = row-counted j })
+        ∙ ap (λ (g : Format). rowIn s g y (length (segmentText s t (recordBy numbers d) x))) fe ∙ sym (row-formatted x b)
+
+  -- ---- frames
+
+  framed-plain : (f : Format) (y z : List ℕ) (n : ℕ) → z ≡ formatted s f y → Framed s (frameBy f (rowIn s f y n)) y z
+  unfolding frameBy rowIn formatted
+  framed-plain f y z n e = record { left = refl; right = refl; between = refl; text = e }
+
+  pub framed-by : (x : LogSegment) (w : Frame) (row : Row) → isBare (sourceBy numbers) x ≡ false → row ≡ rowOf s t (recordBy numbers d) x
+      → w ≡ frameBy (formatOf (levelBy numbers) x) row → Framed s w (rawText s t (recordBy numbers d) x) (segmentText s t (recordBy numbers d) x)
+  framed-by x w row b re we =
+      subst (λ (k : Frame). Framed s k (rawText s t (recordBy numbers d) x) (segmentText s t (recordBy numbers d) x))
+      (sym (we ∙ ap (frameBy (formatOf (levelBy numbers) x)) (re ∙ row-formatted x b)))
+      (framed-plain (formatOf (levelBy numbers) x) (rawText s t (recordBy numbers d) x) (segmentText s t (recordBy numbers d) x) (length (segmentText s t (recordBy numbers d) x)) (formatted-text x b))
+
+  -- a text is no longer before it is formatted
+  pub raw-shorter : (x : LogSegment) (b : Bool) → isBare (sourceBy numbers) x ≡ b
+      → length (rawText s t (recordBy numbers d) x) ≤ length (segmentText s t (recordBy numbers d) x)
+  unfolding formatted
+  raw-shorter x true e = omega (arith, ap length (bare-text x e))
+  raw-shorter x false e =
+      let f = formatOf (levelBy numbers) x in
+      let y = rawText s t (recordBy numbers d) x in
+      omega (arith, ap length (formatted-text x e), length-laid (opening s f) f (padded s f y) y)
+
+module _ (s : Settings) (w : Frame) (x y : List ℕ) (h : Framed s w x y) where
+  pub framed-length : length y ≡ length (opening s (w .format)) + (w .left + (length x + (w .inserted + (w .right + length (ending (opening s (w .format)))))))
+  framed-length =
+      let f = w .format in
+      omega (
+        arith,
+        ap length (h .text),
+        length-laid (opening s f) f (padded s f x) x,
+        inserted-resets (opening s f) x,
+        before-small (f .alignment) (padded s f x),
+        h .left,
+        h .right,
+        h .between,
+      )
+
+  pub open-length : length (opening s (w .format) ++ replicate (w .left) (padByte (w .format .padding))) ≡ length (opening s (w .format)) + w .left
+  open-length =
+      length-append (opening s (w .format)) (replicate (w .left) (padByte (w .format .padding)))
+      ∙ ap (λ (n : ℕ). length (opening s (w .format)) + n) (length-replicate (w .left) (padByte (w .format .padding)))
+
+  -- one segment on top of a measure
+  pub frame-walked : (a b c : Measure) → b ≡ grown a (opening s (w .format) ++ replicate (w .left) (padByte (w .format .padding))) → c ≡ grown b x
+      → grown (more c (w .inserted)) (replicate (w .right) (padByte (w .format .padding)) ++ ending (opening s (w .format))) ≡ grown a y
+  frame-walked a b c be ce =
+      let f = w .format in
+      let p = opening s f in
+      let z = padByte (f .padding) in
+      let n = padded s f x in
+      let l = before (f .alignment) n in
+      ap (λ (k : Measure). grown (more k (w .inserted)) (replicate (w .right) z ++ ending p)) (ce ∙ ap (λ (k : Measure). grown k x) be)
+      ∙ ap (λ (k : ℕ). grown (more (grown (grown a (p ++ replicate k z)) x) (w .inserted)) (replicate (w .right) z ++ ending p)) (h .left)
+      ∙ ap (λ (k : ℕ). grown (more (grown (grown a (p ++ replicate l z)) x) k) (replicate (w .right) z ++ ending p)) (h .between)
+      ∙ ap (λ (k : ℕ). grown (more (grown (grown a (p ++ replicate l z)) x) (inserted p x)) (replicate k z ++ ending p)) (h .right)
+      ∙ walked s f a x n
+      ∙ ap (grown a) (sym (h .text))
+
+  -- nothing is inserted where there is no prefix
+  pub inserted-none : length (opening s (w .format)) ≡ 0 → w .inserted ≡ 0
+  inserted-none p0 = h .between ∙ ap (λ (p : List ℕ). inserted p x) (empty (opening s (w .format)) p0) ∙ inserted-nil x

@@ -1,0 +1,3 @@
+pub mod Counting
+pub mod Matching
+pub mod Running

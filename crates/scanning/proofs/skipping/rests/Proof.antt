@@ -1,0 +1,51 @@
+-- `measure::skipping::rests` meets its contract. Assumes nothing.
+use borrow.Author.Needs.{needs}
+use borrow.Author.Tests.{eqb-true}
+use Rattle.scanning.proofs.Searched.{never}
+use Rattle.scanning.proofs.skipping.rests.Statement.{statement}
+use Rattle.scanning.proofs.skipping.rests.Tie as tie
+
+enum-told : tie.Need-enum-told
+enum-told c = search needs
+
+enum-told-2 : tie.Need-enum-told-2
+enum-told-2 c = search needs
+
+enum-told-3 : tie.Need-enum-told-3
+enum-told-3 c = search needs
+
+enum-told-4 : tie.Need-enum-told-4
+enum-told-4 c = search needs
+
+enum-told-5 : tie.Need-enum-told-5
+enum-told-5 c = search needs
+
+returns : tie.Need-returns
+returns c = λ e. (c .before .enum-told .given .1, eqb-true _ _ e)
+
+returns-2 : tie.Need-returns-2
+returns-2 c = λ e. absurd (never e)
+
+returns-3 : tie.Need-returns-3
+returns-3 c = λ e. absurd (never e)
+
+returns-4 : tie.Need-returns-4
+returns-4 c = λ e. absurd (never e)
+
+returns-5 : tie.Need-returns-5
+returns-5 c = λ e. absurd (never e)
+
+pub rests-spec : {M : Type 1} → statement M
+rests-spec =
+    tie.close
+    (tie.spec
+    enum-told
+    enum-told-2
+    enum-told-3
+    enum-told-4
+    enum-told-5
+    returns
+    returns-2
+    returns-3
+    returns-4
+    returns-5)

@@ -1,0 +1,3 @@
+-- Laws that proofs of this layer and of the layers above cite.
+pub mod Indexing
+pub mod Seeing

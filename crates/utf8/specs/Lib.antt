@@ -1,0 +1,3 @@
+pub mod Expectations
+pub mod Utf8
+pub mod Computing
