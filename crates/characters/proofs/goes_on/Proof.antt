@@ -1,4 +1,4 @@
--- `text::characters::goes_on` meets its contract: a trailing byte is one whose 64th part is 2. Assumes nothing.
+-- `characters::goes_on` meets its contract: a trailing byte is one whose 64th part is 2. Assumes nothing.
 use borrow.Author.Needs.{needs}
 use mathlib.Core.Path.{_≡_}
 use Prim.Native.Nat.{ℕ, _/_}

@@ -1,4 +1,4 @@
--- `answer::templates::check_template` meets its contract. Assumes nothing.
+-- `checking::check_template` meets its contract. Assumes nothing.
 use mathlib.Core.Path.{sym, ap, _∙_}
 use Rattle.template.specs.declared.Parsed.{Parsed}
 use Rattle.template.specs.Parsing.{tellParsed}

@@ -1,4 +1,4 @@
--- `answer::templates::names_timestamp` meets its contract. Assumes nothing.
+-- `checking::names_timestamp` meets its contract. Assumes nothing.
 use mathlib.Core.Path.{sym, ap, subst, _∙_}
 use Rattle.template.specs.declared.Parsed.{Parsed}
 use Rattle.template.specs.Parsing.{tellParsed, ParsedKeeps}

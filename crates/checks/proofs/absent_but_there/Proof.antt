@@ -1,4 +1,4 @@
--- `record::checks::absent_but_there` meets its contract. Assumes nothing.
+-- `checks::absent_but_there` meets its contract. Assumes nothing.
 use mathlib.Core.Bool.{Bool}
 use mathlib.Core.Path.{ap, sym}
 use Rattle.checks.specs.Checks.{absentButThere}

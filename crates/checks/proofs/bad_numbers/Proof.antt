@@ -1,4 +1,4 @@
--- `record::checks::bad_numbers` meets its contract. Assumes nothing.
+-- `checks::bad_numbers` meets its contract. Assumes nothing.
 use borrow.Author.Needs.{needs}
 use borrow.Author.Tests.{lt-ltb, le-ltb}
 use mathlib.Core.Path.{sym, _∙_}

@@ -1,4 +1,4 @@
--- `record::checks::badly_marked` meets its contract. Assumes nothing.
+-- `checks::badly_marked` meets its contract. Assumes nothing.
 use borrow.Author.Needs.{needs}
 use mathlib.Core.Bool.{Bool}
 use mathlib.Core.Path.{ap, sym, _∙_}

@@ -1,4 +1,4 @@
--- `record::checks::check_field` meets its contract. Assumes nothing.
+-- `checks::check_field` meets its contract. Assumes nothing.
 use borrow.Author.Needs.{needs}
 use mathlib.Core.Path.{sym, _∙_}
 use Rattle.checks.proofs.Refusing.{too-long, accepted, not-utf8}

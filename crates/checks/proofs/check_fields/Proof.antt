@@ -1,4 +1,4 @@
--- `record::checks::check_fields` meets its contract: the first text that is refused decides. Assumes nothing.
+-- `checks::check_fields` meets its contract: the first text that is refused decides. Assumes nothing.
 use borrow.Author.Needs.{needs}
 use mathlib.Core.Path.{ap, sym, _∙_}
 use Rattle.checks.proofs.Refusing.{at-file, at-module, at-timestamp, at-message}

@@ -1,4 +1,4 @@
--- `record::checks::host_without_level` meets its contract. Assumes nothing.
+-- `checks::host_without_level` meets its contract. Assumes nothing.
 use borrow.Author.Tests.{eq-eqb, ne-eqb}
 use Rattle.checks.proofs.host_without_level.Statement.{statement}
 use Rattle.checks.proofs.host_without_level.Tie as tie

@@ -1,4 +1,4 @@
--- `wording::decimal::add_number` meets its contract. Assumes nothing.
+-- `decimal::add_number` meets its contract. Assumes nothing.
 use Rattle.decimal.proofs.add_number.Statement.{statement}
 use Rattle.decimal.proofs.add_number.Tie as tie
 use borrow.Author.Needs.{needs}

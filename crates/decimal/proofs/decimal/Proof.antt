@@ -1,4 +1,4 @@
--- `wording::decimal::decimal` meets its contract. The loop's invariant: the digits of what is left, then those written, are all; and there are places for those left. Assumes nothing.
+-- `decimal::decimal` meets its contract. The loop's invariant: the digits of what is left, then those written, are all; and there are places for those left. Assumes nothing.
 use Rattle.decimal.proofs.decimal.Statement.{statement}
 use Rattle.decimal.proofs.decimal.Tie as tie
 use borrow.Author.Needs.{needs}

@@ -1,4 +1,4 @@
--- `wording::decimal::number_len` meets its contract. The loop's invariant: the digits counted and those of what is left are all, the first counted twice; and ten digits are enough. Assumes nothing.
+-- `decimal::number_len` meets its contract. The loop's invariant: the digits counted and those of what is left are all, the first counted twice; and ten digits are enough. Assumes nothing.
 use Prim.Native.Nat.{_≤_, _<_, _+_, _-_, _^_}
 use mathlib.Core.Path.{_≡_}
 use native.Mathlib.Omega.{arith}

@@ -1,4 +1,4 @@
--- `wording::decimal::put_number` meets its contract. Assumes nothing.
+-- `decimal::put_number` meets its contract. Assumes nothing.
 use Rattle.decimal.proofs.put_number.Statement.{statement}
 use Rattle.decimal.proofs.put_number.Tie as tie
 use borrow.Author.Needs.{needs}

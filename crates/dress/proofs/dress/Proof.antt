@@ -1,4 +1,4 @@
--- `dress::in_place::dress` meets its contract. Assumes nothing.
+-- `dress::dress` meets its contract. Assumes nothing.
 use borrow.Author.Needs.{needs}
 use Rattle.dress.proofs.dress.Statement.{statement}
 use Rattle.dress.proofs.dress.Tie as tie

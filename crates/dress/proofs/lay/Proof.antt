@@ -1,4 +1,4 @@
--- `dress::in_place::lay` meets its contract. Assumes nothing.
+-- `dress::lay` meets its contract. Assumes nothing.
 use borrow.Author.Needs.{needs}
 use Rattle.dress.proofs.lay.Statement.{statement}
 use Rattle.dress.proofs.lay.Tie as tie

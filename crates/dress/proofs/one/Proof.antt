@@ -1,4 +1,4 @@
--- `dress::in_place::one` meets its contract. Assumes nothing.
+-- `dress::one` meets its contract. Assumes nothing.
 use borrow.Author.Needs.{needs}
 use Rattle.dress.proofs.one.Statement.{statement}
 use Rattle.dress.proofs.one.Tie as tie

@@ -1,4 +1,4 @@
--- `dress::in_place::spread` meets its contract. The loop's invariant: what is written and what is still to be written make up the
+-- `dress::spread` meets its contract. The loop's invariant: what is written and what is still to be written make up the
 -- result, what is still to be read is as it was, and the rest of the result ends at e. Assumes nothing.
 use borrow.Author.Needs.{needs}
 use Rattle.dress.proofs.spread.Statement.{statement}

@@ -1,4 +1,4 @@
--- `fields::wordings::are_colons` meets its contract. Assumes nothing.
+-- `fields::are_colons` meets its contract. Assumes nothing.
 use borrow.Author.Needs.{needs}
 use mathlib.Core.Path.{sym}
 use Rattle.fields.proofs.Colons.{colon-first, no-colon}

@@ -1,4 +1,4 @@
--- `fields::wordings::before_colons` meets its contract: the bytes passed stand before what is found in those that are left. Assumes nothing.
+-- `fields::before_colons` meets its contract: the bytes passed stand before what is found in those that are left. Assumes nothing.
 use borrow.Author.Needs.{needs}
 use mathlib.Core.Path.{_≡_, sym, _∙_}
 use Prim.Native.Nat.{_-_, _≤_}

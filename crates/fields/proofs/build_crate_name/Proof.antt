@@ -1,4 +1,4 @@
--- `fields::wordings::build_crate_name` meets its contract. Assumes nothing.
+-- `fields::build_crate_name` meets its contract. Assumes nothing.
 use borrow.Author.Needs.{needs}
 use mathlib.Core.Path.{sym, _∙_}
 use Rattle.fields.proofs.Texts.{crate-there, crate-absent}

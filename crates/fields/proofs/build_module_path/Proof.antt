@@ -1,4 +1,4 @@
--- `fields::wordings::build_module_path` meets its contract. Assumes nothing.
+-- `fields::build_module_path` meets its contract. Assumes nothing.
 use borrow.Author.Needs.{needs}
 use mathlib.Core.Path.{sym, _∙_}
 use Rattle.fields.proofs.Texts.{module-there, module-absent}

@@ -1,4 +1,4 @@
--- `fields::wordings::build_timestamp` meets its contract. Assumes nothing.
+-- `fields::build_timestamp` meets its contract. Assumes nothing.
 use borrow.Author.Needs.{needs}
 use mathlib.Core.Path.{sym, _∙_}
 use Rattle.fields.proofs.Texts.{time-host, time-there, time-empty}

@@ -1,4 +1,4 @@
--- `fields::wordings::wording_of` meets its contract. Assumes nothing.
+-- `fields::wording_of` meets its contract. Assumes nothing.
 use borrow.Author.Needs.{needs}
 use native.Mathlib.Omega.{arith}
 use mathlib.Core.Path.{ap, _∙_}

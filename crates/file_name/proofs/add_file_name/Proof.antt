@@ -1,4 +1,4 @@
--- `wording::file_name::add_file_name` meets its contract. Assumes nothing.
+-- `file_name::add_file_name` meets its contract. Assumes nothing.
 use borrow.Author.Needs.{needs}
 use Rattle.file_name.proofs.add_file_name.Statement.{statement}
 use Rattle.file_name.proofs.add_file_name.Tie as tie

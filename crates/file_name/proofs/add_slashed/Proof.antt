@@ -1,4 +1,4 @@
--- `wording::file_name::add_slashed` meets its contract. The loop's invariant: with what remains added, the measure is that with all of it added. Assumes nothing.
+-- `file_name::add_slashed` meets its contract. The loop's invariant: with what remains added, the measure is that with all of it added. Assumes nothing.
 use Rattle.file_name.proofs.add_slashed.Statement.{statement}
 use Rattle.file_name.proofs.add_slashed.Tie as tie
 use borrow.Author.Needs.{needs}

@@ -1,4 +1,4 @@
--- `wording::file_name::file_name_len` meets its contract. Assumes nothing.
+-- `file_name::file_name_len` meets its contract. Assumes nothing.
 use borrow.Author.Needs.{needs}
 use mathlib.Core.Path.{ap, sym}
 use native.Mathlib.Omega.{arith}

@@ -1,4 +1,4 @@
--- `wording::file_name::put_slashed` meets its contract. The loop's invariant: with what remains written at y, the buffer is as with all of it written. Assumes nothing.
+-- `file_name::put_slashed` meets its contract. The loop's invariant: with what remains written at y, the buffer is as with all of it written. Assumes nothing.
 use Rattle.file_name.proofs.put_slashed.Statement.{statement}
 use Rattle.file_name.proofs.put_slashed.Tie as tie
 use borrow.Author.Needs.{needs}

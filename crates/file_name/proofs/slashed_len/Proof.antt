@@ -1,4 +1,4 @@
--- `wording::file_name::slashed_len` meets its contract. The loop's invariant: the bytes counted and those of what remains are all. Assumes nothing.
+-- `file_name::slashed_len` meets its contract. The loop's invariant: the bytes counted and those of what remains are all. Assumes nothing.
 use borrow.Author.Needs.{needs}
 use Prim.Native.Nat.{_≤_, _+_, _-_}
 use mathlib.Core.Path.{_≡_, ap}

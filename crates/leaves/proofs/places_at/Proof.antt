@@ -1,4 +1,4 @@
--- `line::leaves::places_at` meets its contract. Assumes nothing.
+-- `leaves::places_at` meets its contract. Assumes nothing.
 use mathlib.Core.Path.{refl}
 use borrow.Author.Needs.{needs}
 use Rattle.leaves.specs.Places.{placesOf}

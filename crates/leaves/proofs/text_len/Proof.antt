@@ -1,4 +1,4 @@
--- `line::leaves::text_len` meets its contract. Assumes nothing.
+-- `leaves::text_len` meets its contract. Assumes nothing.
 use borrow.Author.Needs.{needs}
 use Prim.Native.Nat.{ℕ, min}
 use mathlib.Core.Path.{sym, ap, _∙_}

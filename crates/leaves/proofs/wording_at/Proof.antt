@@ -1,4 +1,4 @@
--- `line::leaves::wording_at` meets its contract. Assumes nothing.
+-- `leaves::wording_at` meets its contract. Assumes nothing.
 use borrow.Author.Needs.{needs}
 use mathlib.Core.Path.{sym, ap, subst, _∙_}
 use lib.ListN.{length}

@@ -1,4 +1,4 @@
--- `line::writing::put_join`, `line::writing::put_raw`, `line::writing::put_seg` meet their contracts. The loop's invariant: j is a link on the way back
+-- `line::put_join`, `line::put_raw`, `line::put_seg` meet their contracts. The loop's invariant: j is a link on the way back
 -- from l, and the members back from j are written. Assumes nothing.
 use Prim.Native.Nat.{ℕ, _+_, _-_, _*_, _≤_, _<_}
 use mathlib.Core.Path.{_≡_, refl, sym, ap, subst, _∙_}

@@ -1,4 +1,4 @@
--- `line::writing::write_line` meets its contract. Assumes nothing.
+-- `line::write_line` meets its contract. Assumes nothing.
 use mathlib.Core.Path.{_≡_, sym, _∙_}
 use native.Mathlib.Omega.{arith}
 use borrow.Author.Needs.{needs}

@@ -1,4 +1,4 @@
--- `segments::naming::names` and `named_at` meet their contracts. The loop's invariant: the members that are left name it just where all of them do.
+-- `naming::names` and `named_at` meet their contracts. The loop's invariant: the members that are left name it just where all of them do.
 -- A group's members stand below the group, so twice the place falls. Assumes nothing.
 use borrow.Author.Needs.{needs}
 use native.Mathlib.Omega.{arith}

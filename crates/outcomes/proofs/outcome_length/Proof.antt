@@ -1,4 +1,4 @@
--- `session::outcomes::outcome_length` meets its contract. Assumes nothing.
+-- `outcomes::outcome_length` meets its contract. Assumes nothing.
 use borrow.Author.Needs.{needs}
 use Rattle.outcomes.proofs.outcome_length.Statement.{statement}
 use Rattle.outcomes.proofs.outcome_length.Tie as tie

@@ -1,4 +1,4 @@
--- `session::outcomes::put_outcome` meets its contract. Assumes nothing.
+-- `outcomes::put_outcome` meets its contract. Assumes nothing.
 use borrow.Author.Needs.{needs}
 use Rattle.outcomes.proofs.put_outcome.Statement.{statement}
 use Rattle.outcomes.proofs.put_outcome.Tie as tie

@@ -1,4 +1,4 @@
--- `answer::answer_in` meets its contract. Assumes nothing.
+-- `packing::answer_in` meets its contract. Assumes nothing.
 use Rattle.packing.proofs.Rooms.{in-whole, in-short}
 use Rattle.packing.proofs.answer_in.Statement.{statement}
 use Rattle.packing.proofs.answer_in.Tie as tie

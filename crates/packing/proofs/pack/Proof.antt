@@ -1,4 +1,4 @@
--- `answer::packing::pack` meets its contract. Assumes nothing.
+-- `packing::pack` meets its contract. Assumes nothing.
 use mathlib.Core.Path.{sym, ap, subst, _∙_}
 use native.Mathlib.Omega.{arith}
 use Rattle.packing.specs.Packing.{Packable, packedAnswer}

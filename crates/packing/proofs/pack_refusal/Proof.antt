@@ -1,4 +1,4 @@
--- `answer::packing::pack_refusal` meets its contract. Assumes nothing.
+-- `packing::pack_refusal` meets its contract. Assumes nothing.
 use native.Mathlib.Omega.{arith}
 use borrow.Author.Needs.{needs}
 use Rattle.packing.proofs.pack_refusal.Statement.{statement}

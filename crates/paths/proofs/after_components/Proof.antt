@@ -1,4 +1,4 @@
--- `fields::paths::after_components` meets its contract: what is left to skip of what is left. Assumes nothing.
+-- `paths::after_components` meets its contract: what is left to skip of what is left. Assumes nothing.
 use borrow.Author.Needs.{needs}
 use mathlib.Core.Path.{_≡_, ap, sym, _∙_}
 use Prim.Native.Nat.{ℕ}

@@ -1,4 +1,4 @@
--- `fields::paths::count_components` meets its contract: those counted and those left are all. Assumes nothing.
+-- `paths::count_components` meets its contract: those counted and those left are all. Assumes nothing.
 use borrow.Author.Needs.{needs}
 use mathlib.Core.Path.{_≡_, ap}
 use Prim.Native.Nat.{_+_}

@@ -1,4 +1,4 @@
--- `fields::paths::end_of` meets its contract: the bytes passed stand before the first piece of what is left. Assumes nothing.
+-- `paths::end_of` meets its contract: the bytes passed stand before the first piece of what is left. Assumes nothing.
 use borrow.Author.Needs.{needs}
 use mathlib.Core.Path.{_≡_, _∙_}
 use Prim.Native.Nat.{_-_, _≤_, _<_}

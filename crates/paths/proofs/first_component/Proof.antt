@@ -1,4 +1,4 @@
--- `fields::paths::first_component` meets its contract. Assumes nothing.
+-- `paths::first_component` meets its contract. Assumes nothing.
 use borrow.Author.Needs.{needs}
 use mathlib.Core.Path.{_∙_}
 use Prim.Native.Nat.{_<_}

@@ -1,4 +1,4 @@
--- `fields::paths::first_shown` meets its contract. Assumes nothing.
+-- `paths::first_shown` meets its contract. Assumes nothing.
 use borrow.Author.Needs.{needs}
 use mathlib.Core.Path.{sym, _∙_}
 use native.Mathlib.Omega.{arith}

@@ -1,4 +1,4 @@
--- `fields::paths::is_dot` meets its contract. Assumes nothing.
+-- `paths::is_dot` meets its contract. Assumes nothing.
 use borrow.Author.Needs.{needs}
 use native.Mathlib.Omega.{arith}
 use Rattle.paths.proofs.Pieces.{dot-alone, longer}

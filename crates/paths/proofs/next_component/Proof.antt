@@ -1,4 +1,4 @@
--- `fields::paths::next_component` meets its contract: what was passed holds no component. Assumes nothing.
+-- `paths::next_component` meets its contract: what was passed holds no component. Assumes nothing.
 use borrow.Author.Needs.{needs}
 use borrow.Author.Tests.{not-true, not-false}
 use mathlib.Core.Path.{_≡_, refl, sym, _∙_}

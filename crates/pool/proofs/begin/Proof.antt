@@ -1,4 +1,4 @@
--- `segments::pool::begin` meets its contract. Assumes nothing.
+-- `pool::begin` meets its contract. Assumes nothing.
 use borrow.Author.Needs.{needs}
 use native.Mathlib.Omega.{arith}
 use lib.ListN.{length-set}

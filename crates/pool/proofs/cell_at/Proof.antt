@@ -1,4 +1,4 @@
--- `segments::pool::cell_at` meets its contract. Assumes nothing.
+-- `pool::cell_at` meets its contract. Assumes nothing.
 use borrow.Author.Needs.{needs}
 use mathlib.Core.Path.{refl}
 use Rattle.segments.specs.Pool.{cell}

@@ -1,4 +1,4 @@
--- `segments::pool::dress` meets its contract. Assumes nothing.
+-- `pool::dress` meets its contract. Assumes nothing.
 use borrow.Author.Needs.{needs}
 use native.Mathlib.Omega.{arith}
 use mathlib.Core.Path.{ap, _∙_}

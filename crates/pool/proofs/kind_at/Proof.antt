@@ -1,4 +1,4 @@
--- `segments::pool::kind_at` meets its contract. Assumes nothing.
+-- `pool::kind_at` meets its contract. Assumes nothing.
 use borrow.Author.Needs.{needs}
 use mathlib.Core.Path.{_≡_, ap, _∙_}
 use mathlib.Core.List.{List}

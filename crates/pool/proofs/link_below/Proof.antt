@@ -1,4 +1,4 @@
--- `segments::pool::link_below` meets its contract. Assumes nothing.
+-- `pool::link_below` meets its contract. Assumes nothing.
 use native.Mathlib.Omega.{arith}
 use mathlib.Core.Path.{sym}
 use Rattle.segments.proofs.Chains.{link-kept, link-lost}

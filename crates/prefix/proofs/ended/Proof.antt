@@ -1,4 +1,4 @@
--- `dress::prefix::ended` meets its contract. Assumes nothing.
+-- `prefix::ended` meets its contract. Assumes nothing.
 use borrow.Author.Needs.{needs}
 use Rattle.prefix.proofs.ended.Statement.{statement}
 use Rattle.prefix.proofs.ended.Tie as tie

@@ -1,4 +1,4 @@
--- `dress::prefix::put_prefix` meets its contract. Assumes nothing.
+-- `prefix::put_prefix` meets its contract. Assumes nothing.
 use borrow.Author.Needs.{needs}
 use Rattle.prefix.proofs.put_prefix.Statement.{statement}
 use Rattle.prefix.proofs.put_prefix.Tie as tie

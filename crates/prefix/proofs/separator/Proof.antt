@@ -1,4 +1,4 @@
--- `dress::prefix::separator` meets its contract. Assumes nothing.
+-- `prefix::separator` meets its contract. Assumes nothing.
 use Rattle.prefix.proofs.separator.Statement.{statement}
 use Rattle.prefix.proofs.separator.Tie as tie
 use borrow.Author.Tests.{eq-eqb, ne-eqb}

@@ -1,4 +1,4 @@
--- `dress::prefix::with_ink` meets its contract. Assumes nothing.
+-- `prefix::with_ink` meets its contract. Assumes nothing.
 use borrow.Author.Needs.{needs}
 use Rattle.prefix.proofs.with_ink.Statement.{statement}
 use Rattle.prefix.proofs.with_ink.Tie as tie

@@ -1,4 +1,4 @@
--- `dress::prefix::with_style` meets its contract. Assumes nothing.
+-- `prefix::with_style` meets its contract. Assumes nothing.
 use borrow.Author.Needs.{needs}
 use Rattle.prefix.proofs.with_style.Statement.{statement}
 use Rattle.prefix.proofs.with_style.Tie as tie

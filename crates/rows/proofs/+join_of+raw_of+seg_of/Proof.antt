@@ -1,4 +1,4 @@
--- `line::measuring::join_of`, `line::measuring::raw_of`, `line::measuring::seg_of` meet their contracts. The loop's invariant: j is a link on the way back
+-- `rows::join_of`, `rows::raw_of`, `rows::seg_of` meet their contracts. The loop's invariant: j is a link on the way back
 -- from l, and the members back from j are measured. Assumes nothing.
 use Prim.Native.Nat.{ℕ, _+_, _-_, _*_, _≤_, _<_}
 use mathlib.Core.Path.{_≡_, refl, sym, ap, subst, _∙_}

@@ -1,4 +1,4 @@
--- `line::measuring::bare_row` meets its contract. Assumes nothing.
+-- `rows::bare_row` meets its contract. Assumes nothing.
 use mathlib.Core.Path.{refl}
 use Rattle.rows.specs.Rows.{bareRow}
 use Rattle.rows.proofs.bare_row.Statement.{statement}

@@ -1,4 +1,4 @@
--- `line::measuring::ends_len` meets its contract. Assumes nothing.
+-- `rows::ends_len` meets its contract. Assumes nothing.
 use borrow.Author.Needs.{needs}
 use borrow.Author.Tests.{eq-eqb, ne-eqb}
 use Rattle.rows.proofs.ends_len.Statement.{statement}

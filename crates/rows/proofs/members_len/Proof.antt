@@ -1,4 +1,4 @@
--- `line::measuring::members_len` meets its contract. The loop's invariant: the lengths added and those further back are all. Assumes nothing.
+-- `rows::members_len` meets its contract. The loop's invariant: the lengths added and those further back are all. Assumes nothing.
 use Prim.Native.Nat.{_+_, _-_, _≤_}
 use mathlib.Core.Path.{_≡_, refl}
 use native.Mathlib.Omega.{arith}

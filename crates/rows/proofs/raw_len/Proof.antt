@@ -1,4 +1,4 @@
--- `line::measuring::raw_len` meets its contract. Assumes nothing.
+-- `rows::raw_len` meets its contract. Assumes nothing.
 use borrow.Author.Needs.{needs}
 use mathlib.Core.Path.{sym, ap, _∙_}
 use native.Mathlib.Omega.{arith}

@@ -1,4 +1,4 @@
--- `line::measuring::row_for` meets its contract. Assumes nothing.
+-- `rows::row_for` meets its contract. Assumes nothing.
 use borrow.Author.Needs.{needs}
 use mathlib.Core.Path.{_≡_, sym, ap, subst, _∙_}
 use mathlib.Core.Bool.{false, true}

@@ -1,4 +1,4 @@
--- `line::measuring::rows` meets its contract. Assumes nothing.
+-- `rows::rows` meets its contract. Assumes nothing.
 use Prim.Native.Nat.{_+_, _-_, _*_, _≤_}
 use mathlib.Core.Path.{_≡_, refl, _∙_}
 use native.Mathlib.Omega.{arith}

@@ -1,4 +1,4 @@
--- `measure::scan::act_of` meets its contract: an arm for each state. Assumes nothing.
+-- `scanning::act_of` meets its contract: an arm for each state. Assumes nothing.
 use borrow.Author.Needs.{needs}
 use mathlib.Core.Path.{ap, sym, _∙_}
 use borrow.Author.Tests.{eq-eqb}

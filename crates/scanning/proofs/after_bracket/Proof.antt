@@ -1,4 +1,4 @@
--- `measure::scan::after_bracket` meets its contract. Assumes nothing.
+-- `scanning::after_bracket` meets its contract. Assumes nothing.
 use borrow.Author.Tests.{eq-eqb, ne-eqb}
 use Rattle.scanning.proofs.after_bracket.Statement.{statement}
 use Rattle.scanning.proofs.after_bracket.Tie as tie

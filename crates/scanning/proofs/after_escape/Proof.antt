@@ -1,4 +1,4 @@
--- `measure::scan::after_escape` meets its contract. Assumes nothing.
+-- `scanning::after_escape` meets its contract. Assumes nothing.
 use borrow.Author.Tests.{eq-eqb, ne-eqb}
 use Rattle.scanning.proofs.after_escape.Statement.{statement}
 use Rattle.scanning.proofs.after_escape.Tie as tie

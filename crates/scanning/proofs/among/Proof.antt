@@ -1,4 +1,4 @@
--- `measure::scan::among` meets its contract: each test of the byte is one of the definition. Assumes nothing.
+-- `scanning::among` meets its contract: each test of the byte is one of the definition. Assumes nothing.
 use borrow.Author.Tests.{eq-eqb, ne-eqb}
 use Rattle.scanning.proofs.Searched.{in-semicolon, in-digit, in-below, in-above}
 use Rattle.scanning.proofs.among.Statement.{statement}

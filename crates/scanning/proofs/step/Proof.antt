@@ -1,4 +1,4 @@
--- `measure::scan::step` meets its contract: an arm for each act. Assumes nothing.
+-- `scanning::step` meets its contract: an arm for each act. Assumes nothing.
 use borrow.Author.Needs.{needs}
 use mathlib.Core.Path.{ap, sym, _∙_}
 use Rattle.colour.specs.declared.Act.{Act}

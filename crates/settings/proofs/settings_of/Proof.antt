@@ -1,4 +1,4 @@
--- `answer::settings_of` meets its contract. Assumes nothing.
+-- `settings::settings_of` meets its contract. Assumes nothing.
 use borrow.Author.Needs.{needs}
 use Rattle.settings.specs.Bits.{settingsOf}
 use Rattle.settings.proofs.settings_of.Statement.{statement}

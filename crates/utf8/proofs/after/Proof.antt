@@ -1,4 +1,4 @@
--- `text::utf8::after` meets its contract: each arm is one byte more of what the state awaits. Assumes nothing.
+-- `utf8::after` meets its contract: each arm is one byte more of what the state awaits. Assumes nothing.
 use borrow.Author.Needs.{needs}
 use mathlib.Core.Path.{_≡_, refl, ap, sym, _∙_}
 use mathlib.Core.Bool.{Bool, true, false}

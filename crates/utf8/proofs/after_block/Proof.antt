@@ -1,4 +1,4 @@
--- `text::utf8::after_block` meets its contract. Assumes nothing.
+-- `utf8::after_block` meets its contract. Assumes nothing.
 use borrow.Author.Needs.{needs}
 use mathlib.Core.Path.{_≡_, sym, _∙_, subst}
 use mathlib.Core.List.{[]}

@@ -1,4 +1,4 @@
--- `text::utf8::after_bytes` meets its contract. The loop's invariant: what is left of the text goes on from the state as the
+-- `utf8::after_bytes` meets its contract. The loop's invariant: what is left of the text goes on from the state as the
 -- whole block does from the first one. Assumes nothing.
 use borrow.Author.Needs.{needs}
 use mathlib.Core.Path.{_≡_, ap, sym, _∙_}

@@ -1,4 +1,4 @@
--- `text::utf8::beyond_ascii` meets its contract. The loop's invariant: while no byte was counted, each was a character.
+-- `utf8::beyond_ascii` meets its contract. The loop's invariant: while no byte was counted, each was a character.
 -- Assumes nothing.
 use borrow.Author.Needs.{needs}
 use mathlib.Core.Path.{_≡_, ap, sym, _∙_}

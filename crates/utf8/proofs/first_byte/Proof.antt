@@ -1,4 +1,4 @@
--- `text::utf8::first_byte` meets its contract: each return is a line of table 3-7. Assumes nothing.
+-- `utf8::first_byte` meets its contract: each return is a line of table 3-7. Assumes nothing.
 use mathlib.Core.Path.{sym}
 use native.Mathlib.Omega.{arith}
 use Rattle.utf8.proofs.Leading as table

@@ -1,4 +1,4 @@
--- `text::utf8::is_utf8` meets its contract. The loop's invariant: what is left of the text goes on from the state as the whole
+-- `utf8::is_utf8` meets its contract. The loop's invariant: what is left of the text goes on from the state as the whole
 -- text does from the start. Assumes nothing.
 use borrow.Author.Needs.{needs}
 use mathlib.Core.Path.{_≡_, ap, sym, _∙_}

@@ -1,4 +1,4 @@
--- `text::utf8::trailing` meets its contract. Assumes nothing.
+-- `utf8::trailing` meets its contract. Assumes nothing.
 use Rattle.utf8.specs.Expectations.{onIf}
 use Rattle.utf8.proofs.Ranges.{within-in, within-below, within-above}
 use Rattle.utf8.proofs.trailing.Statement.{statement}

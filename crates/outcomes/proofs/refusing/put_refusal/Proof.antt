@@ -1,4 +1,4 @@
--- `session::refusing::put_refusal` meets its contract. Assumes nothing.
+-- `outcomes::refusing::put_refusal` meets its contract. Assumes nothing.
 use borrow.Author.Needs.{needs}
 use Rattle.outcomes.proofs.refusing.put_refusal.Statement.{statement}
 use Rattle.outcomes.proofs.refusing.put_refusal.Tie as tie

@@ -1,4 +1,4 @@
--- `session::refusing::refusal_length` meets its contract. Assumes nothing.
+-- `outcomes::refusing::refusal_length` meets its contract. Assumes nothing.
 use borrow.Author.Needs.{needs}
 use Rattle.outcomes.proofs.refusing.refusal_length.Statement.{statement}
 use Rattle.outcomes.proofs.refusing.refusal_length.Tie as tie

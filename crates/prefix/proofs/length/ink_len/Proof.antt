@@ -1,4 +1,4 @@
--- `measure::prefix::ink_len` meets its contract. Assumes nothing.
+-- `prefix::length::ink_len` meets its contract. Assumes nothing.
 use native.Mathlib.Omega.{arith}
 use borrow.Author.Needs.{needs}
 use mathlib.Core.Path.{ap, sym, _∙_}

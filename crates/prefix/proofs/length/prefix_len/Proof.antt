@@ -1,4 +1,4 @@
--- `measure::prefix::prefix_len` meets its contract: the sum is the length of the codes, each with the byte after it. Assumes nothing.
+-- `prefix::length::prefix_len` meets its contract: the sum is the length of the codes, each with the byte after it. Assumes nothing.
 use native.Mathlib.Omega.{arith}
 use borrow.Author.Needs.{needs}
 use mathlib.Core.Path.{_≡_, ap, sym, _∙_}

@@ -1,4 +1,4 @@
--- `line::members::member_after` meets its contract. The loop's invariant: k stands on the way from l back to j, and isn't j. Assumes nothing.
+-- `rows::members::member_after` meets its contract. The loop's invariant: k stands on the way from l back to j, and isn't j. Assumes nothing.
 use Prim.Native.Nat.{_≤_, _<_}
 use mathlib.Core.Path.{_≡_, sym, _∙_}
 use native.Mathlib.Omega.{arith}

@@ -1,4 +1,4 @@
--- `line::segment::format_of` meets its contract. Assumes nothing.
+-- `rows::segment::format_of` meets its contract. Assumes nothing.
 use borrow.Author.Needs.{needs}
 use Rattle.leaves.specs.Places.{levelBy}
 use Rattle.rows.proofs.Formats.{text-format, group-format, specifier-format}

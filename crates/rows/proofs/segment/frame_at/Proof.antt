@@ -1,4 +1,4 @@
--- `line::segment::frame_at` meets its contract. Assumes nothing.
+-- `rows::segment::frame_at` meets its contract. Assumes nothing.
 use borrow.Author.Needs.{needs}
 use Rattle.rows.proofs.Framing.{frame-made}
 use Rattle.rows.proofs.segment.frame_at.Statement.{statement}

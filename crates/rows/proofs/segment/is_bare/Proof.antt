@@ -1,4 +1,4 @@
--- `line::segment::is_bare` meets its contract. Assumes nothing.
+-- `rows::segment::is_bare` meets its contract. Assumes nothing.
 use borrow.Author.Needs.{needs}
 use Rattle.leaves.specs.Places.{sourceBy}
 use Rattle.rows.proofs.Formats.{text-is-bare, group-is-not, specifier-is}

@@ -1,4 +1,4 @@
--- `line::segment::is_bare_from` meets its contract. Assumes nothing.
+-- `rows::segment::is_bare_from` meets its contract. Assumes nothing.
 use mathlib.Core.Path.{_≡_, refl, sym, ap, _∙_}
 use mathlib.Core.List.{[], _∷_}
 use mathlib.Core.Bool.{false}

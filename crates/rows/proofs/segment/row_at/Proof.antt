@@ -1,4 +1,4 @@
--- `line::segment::row_at` meets its contract. Assumes nothing.
+-- `rows::segment::row_at` meets its contract. Assumes nothing.
 use borrow.Author.Needs.{needs}
 use mathlib.Core.Path.{refl}
 use Rattle.rows.specs.Rows.{rowAt}

@@ -1,4 +1,4 @@
--- `measure::skipping::escapes` meets its contract. The invariant: where none was counted, the whole text is free if the rest is.
+-- `scanning::skipping::escapes` meets its contract. The invariant: where none was counted, the whole text is free if the rest is.
 -- Assumes nothing.
 use native.Mathlib.Omega.{arith}
 use borrow.Author.Needs.{needs}

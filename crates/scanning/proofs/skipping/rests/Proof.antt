@@ -1,4 +1,4 @@
--- `measure::skipping::rests` meets its contract. Assumes nothing.
+-- `scanning::skipping::rests` meets its contract. Assumes nothing.
 use borrow.Author.Needs.{needs}
 use borrow.Author.Tests.{eqb-true}
 use Rattle.scanning.proofs.Searched.{never}

@@ -1,4 +1,4 @@
--- `measure::skipping::scan_block` meets its contract: a text without byte 27 moves nothing where no sequence has begun. Assumes nothing.
+-- `scanning::skipping::scan_block` meets its contract: a text without byte 27 moves nothing where no sequence has begun. Assumes nothing.
 use native.Mathlib.Omega.{arith}
 use borrow.Author.Needs.{needs}
 use mathlib.Core.Path.{_≡_, sym}
