@@ -50,7 +50,8 @@ static inline uint64_t pralakuon_length_of(uint64_t answer) { return answer >> 8
  * 4 module), u32 line, u16 lengths of file, module, timestamp, message, then those texts, all numbers little-endian. */
 uint64_t pralakuon_line(const uint8_t *template_, size_t template_len, uint8_t settings, const uint8_t *record, size_t record_len, uint8_t *out, size_t out_len);
 
-/* What the program prints for a session sheet. */
+/* The lines of a session sheet: for each record its line or `! N`, N being its refusal, and a newline. A sheet that is none (15) and one whose template
+ * is refused (1 to 10) have no lines, whatever the room: the refusal is answered. Only of an accepted sheet 13 tells the length of all its lines. */
 uint64_t pralakuon_session(const uint8_t *sheet, size_t sheet_len, uint8_t *out, size_t out_len);
 
 /* 0 for a template that is read, else its refusal. */

@@ -36,7 +36,7 @@ pub fn line(template: &[u8], settings: u8, record: &[u8], out: &mut [u8]) -> u64
     }
 }
 
-/// What the program prints for a session sheet, at the front of `out`.
+/// The lines of all records of a session sheet, at the front of `out`.
 pub fn session(sheet: &[u8], out: &mut [u8]) -> u64 {
     unsafe { pralakuon_session(sheet.as_ptr(), sheet.len(), out.as_mut_ptr(), out.len()) }
 }

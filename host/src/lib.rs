@@ -59,7 +59,7 @@
 //! let mut sheet = SheetWriter::new(formatter.settings(), formatter.template().as_bytes())?;
 //! sheet.push(&Record::new(Level::Warn, "wheel slipped"))?;
 //! sheet.push(&HostRecord::new(Level::Debug, "sheet closed"))?;
-//! assert_eq!(session(&sheet.finish()), b"[WARN ] wheel slipped\n[DEBUG] sheet closed\n");
+//! assert_eq!(session(&sheet.finish())?, b"[WARN ] wheel slipped\n[DEBUG] sheet closed\n");
 //! # Ok::<(), pralakuon::Refusal>(())
 //! ```
 

@@ -1,7 +1,7 @@
 //! Session sheets, read and written as document 01 lays them out. All numbers are little-endian.
 
 use crate::bytes::Bytes;
-use crate::{RawRecord, Refusal, Settings};
+use crate::{session_into, RawRecord, Refusal, Settings};
 
 /// The number of bodies, a u16, at the front of a sheet.
 const COUNT: usize = 2;
@@ -44,12 +44,17 @@ impl<'a> Sheet<'a> {
     /// The most bytes a sheet may have.
     pub const LARGEST: usize = 65_536;
 
-    /// Reads a sheet, or refuses with [`NotASheet`](Refusal::NotASheet).
+    /// Reads a sheet, or refuses with [`NotASheet`](Refusal::NotASheet). Whether it is one, the archive says: a session
+    /// call without room answers that first.
     pub fn read(bytes: &'a [u8]) -> Result<Self, Refusal> {
-        Self::of(bytes).ok_or(Refusal::NotASheet)
+        match session_into(bytes, &mut []) {
+            Err(Refusal::NotASheet) => Err(Refusal::NotASheet),
+            _ => Self::taken_apart(bytes).ok_or(Refusal::NotASheet),
+        }
     }
 
-    fn of(bytes: &'a [u8]) -> Option<Self> {
+    /// The parts of what is a sheet.
+    fn taken_apart(bytes: &'a [u8]) -> Option<Self> {
         let bodies = bodies(bytes)?;
         let (head, records) = bodies.split_first()?;
         let (&settings, template) = head.split_first()?;
@@ -59,11 +64,8 @@ impl<'a> Sheet<'a> {
     }
 }
 
-/// The bodies of a sheet, if it is not too large and they are exactly as its contents say.
+/// The bodies of a sheet, as its contents say.
 fn bodies(bytes: &[u8]) -> Option<Vec<&[u8]>> {
-    if bytes.len() > Sheet::LARGEST {
-        return None;
-    }
     let mut bodies = Bytes(bytes);
     let count = usize::from(bodies.u16()?);
     let mut lengths = Bytes(bodies.take(LENGTH * count)?);

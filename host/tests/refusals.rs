@@ -2,7 +2,7 @@
 
 mod common;
 
-use common::{archive_refuses, hand_laid, hello, line_of, sheet_of, told};
+use common::{archive_refuses, hand_laid, hello, line_of, sheet_of};
 use pralakuon::{
     check, names_timestamp, session, Formatter, FormatterConfig, FormatterFormat, HostFormatter, HostRecord, Level,
     RawRecord, Record, Refusal, Settings, Sheet, SheetWriter,
@@ -27,7 +27,7 @@ fn refused(number: u8, template: impl AsRef<[u8]>) {
     assert_eq!(check(template), Err(refusal), "{template:?}");
     assert_eq!(names_timestamp(template), Err(refusal));
     assert_eq!(line_of(template, Settings::PLAIN, hello()), Err(refusal));
-    assert_eq!(session(&sheet_with(template)), told(number));
+    assert_eq!(session(&sheet_with(template)), Err(refusal));
     if let Ok(template) = std::str::from_utf8(template) {
         assert_eq!(Formatter::new(config(template)), Err(refusal));
         assert_eq!(HostFormatter::new(config(template)), Err(refusal));
@@ -38,7 +38,7 @@ fn refused(number: u8, template: impl AsRef<[u8]>) {
 fn read(template: &str, line: &str) {
     assert_eq!(check(template.as_bytes()), Ok(()), "{template:?}");
     assert_eq!(line_of(template.as_bytes(), Settings::PLAIN, hello()), Ok(line.into()));
-    assert_eq!(session(&sheet_with(template.as_bytes())), format!("{line}\n{line}\n").into_bytes());
+    assert_eq!(session(&sheet_with(template.as_bytes())), Ok(format!("{line}\n{line}\n").into_bytes()));
     let record = Record::new(Level::Info, "hello");
     assert_eq!(Formatter::new(config(template)).unwrap().format(&record).as_deref(), Ok(line));
 }
@@ -198,7 +198,7 @@ fn r13_in_a_session_a_line_of_65537_bytes() {
         let mut writer = SheetWriter::new(Settings::PLAIN, template.as_bytes()).unwrap();
         writer.push(RawRecord { message: &[b'm'; 4_096], ..hello() }).unwrap();
         writer.push(hello()).unwrap();
-        session(&writer.finish())
+        session(&writer.finish()).unwrap()
     };
     let longest = printed("{s}".repeat(16));
     assert_eq!(longest, ["m".repeat(65_536), "\n".into(), "hello".repeat(16), "\n".into()].concat().into_bytes());
@@ -282,7 +282,7 @@ fn r15_the_writer_refuses_what_does_not_fit_and_goes_on() {
     }
     writer.push(RawRecord { message: &[b'm'; 65_483], ..hello() }).unwrap();
     assert_eq!(writer.size(), 65_536);
-    assert_eq!(session(&writer.finish()), b"hello\n! 11\n");
+    assert_eq!(session(&writer.finish()).unwrap(), b"hello\n! 11\n");
 }
 
 #[test]
@@ -295,7 +295,7 @@ fn r15_bodies_run_out_of_room_before_they_run_out_of_numbers() {
     }
     // Each record takes 19 bytes, 4 of them in the contents.
     assert_eq!(pushed, (65_536 - 10) / 19);
-    assert_eq!(session(&writer.finish()), vec![b'\n'; pushed]);
+    assert_eq!(session(&writer.finish()), Ok(vec![b'\n'; pushed]));
 }
 
 #[test]

@@ -2,7 +2,7 @@
 
 mod common;
 
-use common::{archive_refuses, hand_laid, sheet_of};
+use common::{archive_refuses, hand_laid, sheet_of, PAINT};
 use pralakuon::{
     line, session, session_into, HostRecord, Level, RawRecord, Record, Refusal, Settings, Sheet, SheetWriter,
 };
@@ -50,7 +50,7 @@ fn the_example_is_written_byte_for_byte_and_printed() {
     writer.push(&Record::print("boot")).unwrap();
     writer.push(RawRecord { source: RawRecord::HOST, level: 0, ..RawRecord::default() }).unwrap();
     assert_eq!(writer.finish(), EXAMPLE);
-    assert_eq!(session(EXAMPLE), b"[ERROR] hello\nboot\n! 14\n");
+    assert_eq!(session(EXAMPLE).unwrap(), b"[ERROR] hello\nboot\n! 14\n");
 }
 
 #[test]
@@ -99,7 +99,7 @@ fn every_kind_of_record_comes_back() {
 fn samples_print_what_they_should() {
     for name in SAMPLES {
         let (sheet, printed) = (sample(&format!("{name}.sheet")), sample(&format!("{name}.txt")));
-        assert_eq!(session(&sheet), printed, "{name}");
+        assert_eq!(session(&sheet).as_ref(), Ok(&printed), "{name}");
         assert!(!judged_alike(&sheet), "{name}");
     }
 }
@@ -134,6 +134,35 @@ fn a_session_needs_no_more_room_than_its_length() {
 }
 
 #[test]
+fn a_refused_sheet_writes_nothing_whatever_the_room() {
+    let refused = |sheet: &[u8], refusal: Refusal| {
+        for room in [0, 4, 5, 80] {
+            let mut out = [PAINT; 80];
+            assert_eq!(session_into(sheet, &mut out[..room]), Err(refusal), "room {room}");
+            assert!(out.iter().all(|&byte| byte == PAINT), "room {room}");
+        }
+        assert_eq!(session(sheet), Err(refusal));
+    };
+    refused(b"", Refusal::NotASheet);
+    refused(&sheet_of(&[b"\0{t}"]), Refusal::NoMessage);
+    refused(&sheet_of(&[b"\0{t}", &hand_laid(b"hello")]), Refusal::NoMessage);
+}
+
+#[test]
+fn a_record_that_says_so_is_a_line_and_a_refused_one_is_told() {
+    let mut writer = SheetWriter::new(Settings::PLAIN, b"{s}").unwrap();
+    writer.push(&Record::print("! 15")).unwrap();
+    assert_eq!(session(&writer.clone().finish()).unwrap(), b"! 15\n");
+    writer.push(RawRecord { message: b"\xff", ..RawRecord::default() }).unwrap();
+    writer.push(RawRecord { level: 6, ..RawRecord::default() }).unwrap();
+    let sheet = writer.finish();
+    assert_eq!(session(&sheet).unwrap(), b"! 15\n! 12\n! 14\n");
+    let mut out = [PAINT; 14];
+    assert_eq!(session_into(&sheet, &mut out), Err(Refusal::LineTooLong { needed: 15 }));
+    assert_eq!(out, [PAINT; 14]);
+}
+
+#[test]
 fn a_session_of_a_megabyte_grows_to_it() {
     let template = "{s}".repeat(60);
     let mut writer = SheetWriter::new(Settings::PLAIN, template.as_bytes()).unwrap();
@@ -144,7 +173,7 @@ fn a_session_of_a_megabyte_grows_to_it() {
     let records = Sheet::read(&sheet).unwrap().records;
     let line = |raw: &RawRecord| raw.message.repeat(if raw.level == 0 { 1 } else { 60 });
     let expected: Vec<u8> = records.iter().flat_map(|raw| [line(raw), b"\n".to_vec()].concat()).collect();
-    assert!(session(&sheet) == expected);
+    assert!(session(&sheet).as_ref() == Ok(&expected));
 }
 
 #[test]

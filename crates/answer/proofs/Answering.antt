@@ -1,5 +1,5 @@
 -- Answers and buffers by the room that there is, and the line of a record that passed its checks. Assumes nothing.
-use Prim.Native.Nat.{ℕ, zero, suc, _≤_, _<_, _^_}
+use Prim.Native.Nat.{ℕ, _≤_, _<_, _^_}
 use mathlib.Core.Path.{_≡_, refl, sym, ap, subst, _∙_}
 use mathlib.Core.Bool.{Bool, true, false}
 use mathlib.Core.List.{List, append-nil}
@@ -12,6 +12,7 @@ use Rattle.buffer.specs.Table.{Maybe, none, some}
 use Rattle.utf8.specs.Utf8.{valid}
 use Rattle.refusals.specs.declared.Refusal.{Refusal}
 use Rattle.refusals.specs.Numbers.{number, lengthWith}
+use Rattle.words.specs.declared.Color.{Color}
 use Rattle.colour.specs.declared.Settings.{Settings}
 use Rattle.colour.specs.Shown.{textOf, joined}
 use Rattle.segments.specs.Segments.{LogSegments}
@@ -20,7 +21,10 @@ use Rattle.record.specs.declared.Places.{Places}
 use Rattle.record.specs.Layout.{Laid, laidOut, rightSize}
 use Rattle.record.specs.Placed.{laidBy}
 use Rattle.checks.specs.Checks.{recordRefusal, badlyMarked, fieldRefusal, fieldsRefusal, orNext}
-use Rattle.record.specs.Contents.{recordOf, levelOf, levelAt}
+use Rattle.record.specs.declared.Name.{Name}
+use Rattle.record.specs.declared.Level.{Level}
+use Rattle.record.specs.Levels.{levelOf}
+use Rattle.record.specs.Contents.{recordOf}
 use Rattle.checks.proofs.Passing.{passes}
 use Rattle.fields.specs.Lines.{recordShown, lineOf}
 use Rattle.leaves.specs.Places.{placesOf, recordBy, Short}
@@ -98,25 +102,23 @@ refusal-unsized l r e = subst Unsized e (record-unsized l)
 
 -- ---- the line
 
-pub line-print : (s : Settings) (t : List ℕ) (c : LogSegments) (l : Laid) → l .level ≡ 0 → lineOf s t c (recordOf l) ≡ l .message
-unfolding lineOf recordOf recordShown joined textOf levelOf levelAt
-line-print s t c l h = rw (h, append-nil)
+-- by what the level number means: the message alone, or the segments
+module _ (s : Settings) (t : List ℕ) (c : LogSegments) (l : Laid) (x : Level) (e : x ≡ levelOf (l .level)) where
+  shown-as : (y : Level) → x ≡ y → lineOf s t c (recordOf l) ≡ joined s (recordShown y t (recordOf l) c)
+  unfolding lineOf recordOf
+  shown-as y h = ap (λ (z : Level). joined s (recordShown z t (recordOf l) c)) (sym e ∙ h)
 
-shown-level : (s : Settings) (t : List ℕ) (c : LogSegments) (l : Laid) (n : ℕ) → (n ≡ 0 → ⊥) → n ≤ 5
-    → joined s (recordShown (levelOf n) t (recordOf l) c) ≡ segmentsText s t (recordOf l) c
-unfolding recordShown levelOf levelAt
-shown-level s t c l zero h g = absurd (h refl)
-shown-level s t c l (suc zero) h g = refl
-shown-level s t c l (suc (suc zero)) h g = refl
-shown-level s t c l (suc (suc (suc zero))) h g = refl
-shown-level s t c l (suc (suc (suc (suc zero)))) h g = refl
-shown-level s t c l (suc (suc (suc (suc (suc zero))))) h g = refl
-shown-level s t c l (suc (suc (suc (suc (suc (suc n)))))) h g = absurd (let z : ⊥ = omega arith in z)
+  pub line-print : x ≡ Level.Print → lineOf s t c (recordOf l) ≡ l .message
+  unfolding recordOf recordShown joined textOf
+  line-print h = shown-as Level.Print h ∙ append-nil (l .message)
 
-pub line-level : (s : Settings) (t : List ℕ) (c : LogSegments) (l : Laid) → (l .level ≡ 0 → ⊥) → recordRefusal l ≡ none
-    → lineOf s t c (recordOf l) ≡ segmentsText s t (recordOf l) c
-unfolding lineOf recordOf
-line-level s t c l h e = shown-level s t c l (l .level) h (passes l e .level)
+  pub line-refused : x ≡ Level.Refused → lineOf s t c (recordOf l) ≡ l .message
+  unfolding recordOf recordShown joined textOf
+  line-refused h = shown-as Level.Refused h ∙ append-nil (l .message)
+
+  pub line-level : (n : Name) (k : Color) → x ≡ Level.Named n k → lineOf s t c (recordOf l) ≡ segmentsText s t (recordOf l) c
+  unfolding recordShown
+  line-level n k h = shown-as (Level.Named n k) h
 
 pub texts-short : (l : Laid) → recordRefusal l ≡ none → Short l
 texts-short l e =
@@ -129,6 +131,7 @@ module _ (cells t d : List ℕ) (n : ℕ) (p : Places) (numbers : List ℕ) (h :
   writable g = record {
     readable = record { pool = h .pool; few = h .read .few; twelve = g; places = rw e (h .places) };
     sound = h .read .sound;
+    tidy = h .read .tidy;
     few = omega (arith, h .read .counted, h .read .few);
     low = h .read .low;
     template = h .template;

@@ -1,5 +1,6 @@
 -- What a line call answers, and what it leaves in the lent buffer. Assumes nothing.
 use Prim.Native.Nat.{ℕ, _+_, _*_, _/_, _%_}
+use mathlib.Core.Path.{_≡_}
 use mathlib.Core.Bool.{Bool, true, false, _&&_}
 use mathlib.Core.List.{List, [], _∷_}
 use lib.Dec.{eqb, leb, ltb}
@@ -55,6 +56,11 @@ bufferAfter d (refused r) = d
 unfoldable pub packed : Outcome → ℕ
 packed (line s) = 256 * length s
 packed (refused r) = number r + 256 * lengthWith r
+
+-- "The statement settles answer and buffers for each input, refused or not": what an entry returns and leaves in the buffer lent to it
+pub record Meets (o : Outcome) (lent left : List ℕ) (answer : ℕ) : Type 0 where
+  pub returned : answer ≡ packed o
+  pub buffer : left ≡ bufferAfter lent o
 
 -- ---- a call with the settings byte and the record's bytes
 

@@ -5,9 +5,11 @@ use colour::Settings;
 use line::write_line;
 use packing::Answer;
 use packing::answer_in;
+use record::Level;
 use record::Places;
 use record::layout::places_in;
 use record::layout::right_size;
+use record::levels::level_of;
 use refusals::Refusal;
 use settings::settings_of;
 use template::Parsed;
@@ -71,7 +73,7 @@ fn put_segments(
     write_line(cells, n, t, d, &numbers, s, out)
 }
 
-// The same with the line of any record that passed its checks: a print without level is its message alone.
+// The same with the line of any record that passed its checks, as none with a refused level does: a print without level is its message alone.
 fn put_line(
     cells: &[usize],
     n: usize,
@@ -84,10 +86,12 @@ fn put_line(
     requires { ⌜ Accepted (now cells) (now t) (now d) n p ⌝ }
     ensures { λ r. ⌜ Writes (now (out .entry)) (now (out .exit)) (lineOf s (now (t .entry)) (chainAt (now (cells .entry)) n) (recordOf (laidBy p (now (d .entry))))) r ⌝ }
 {
-    if p.level == 0 {
-        return put_part(d, p.message_from, p.message_to, out);
+    let level = level_of(p.level);
+    match level {
+        Level::Print => put_part(d, p.message_from, p.message_to, out),
+        Level::Named(_, _) => put_segments(cells, n, t, s, d, p, out),
+        Level::Refused => put_part(d, p.message_from, p.message_to, out),
     }
-    put_segments(cells, n, t, s, d, p, out)
 }
 
 // The answer for the record d where there is so much room. The line is written where the buffer has room for it: measuring lends none.

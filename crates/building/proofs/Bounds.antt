@@ -8,9 +8,9 @@ use lib.ListN.{length, take}
 use Rattle.refusals.specs.declared.Refusal.{Refusal}
 use Rattle.segments.specs.Segments.{LogSegment}
 use Rattle.segments.specs.Sizes.{size, Low, Narrow}
-use Rattle.segments.specs.Pool.{segmentAt, back, Adds, Sound}
+use Rattle.segments.specs.Pool.{segmentAt, back, lastMember, Adds, Sound, Tidy}
 use Rattle.segments.proofs.Fronts.{front-less}
-use Rattle.segments.proofs.Growing.{sound-more, sound-front}
+use Rattle.segments.proofs.Growing.{sound-more, sound-front, tidy-more}
 use Rattle.parts.specs.declared.Parts.{Parts}
 use Rattle.building.specs.declared.PartsRead.{PartsRead}
 use Rattle.building.specs.declared.Reading.{Reading}
@@ -84,6 +84,7 @@ fitted-moved lo to n link d a j k h lo′ to′ j′ g u = record {
   counted = h .counted;
   low = h .low;
   sound = h .sound;
+  tidy = h .tidy;
 }
 
 pub keeps-wider : (lo to n link d : ℕ) (b a : List ℕ) (o : Reading) → Keeps lo to n link d b a o → (lo′ : ℕ) → lo′ ≤ lo → Keeps lo′ to n link d b a o
@@ -111,9 +112,16 @@ module _ (b a : List ℕ) (n link : ℕ) (x : LogSegment) (h : Adds b a n link x
   pub last-added : segmentAt a (n + 1 - 1) ≡ x
   last-added = ap (segmentAt a) last-place ∙ h .made
 
+  pub adds-tidy : (m : ℕ) → size x + m ≡ n + 1 → (Tidy a m → Tidy a n) → (1 < size x → lastMember a n ≡ n) → Tidy a m → (0 < link → link ≡ m) → Tidy a (n + 1)
+  adds-tidy m e t y o l =
+      let s = ap size (h .made) in
+      tidy-more a n (t o)
+      (λ z. omega (arith, h .linked, l (let g : 0 < link = omega (arith, h .linked) in g)))
+      (λ z. y (let g : 1 < size x = omega arith in g))
+
   pub adds-keeps : Sound b n → n < 64 → (lo to j : ℕ) → lo ≤ j → j ≤ to → (m : ℕ) → m ≤ n → size x + m ≡ n + 1 → (d : ℕ) → Low d x → Low 8 x
-      → Keeps lo to m link d b a (Reading.Fit j (n + 1))
-  adds-keeps s u lo to j p q m g e d w v =
+      → (Tidy a m → Tidy a n) → (1 < size x → lastMember a n ≡ n) → Keeps lo to m link d b a (Reading.Fit j (n + 1))
+  adds-keeps s u lo to j p q m g e d w v t y =
       fit-keeps lo to m link d b a j (n + 1) (front-less a b n (h .front) m g) (record {
         from = p;
         end = q;
@@ -123,6 +131,7 @@ module _ (b a : List ℕ) (n link : ℕ) (x : LogSegment) (h : Adds b a n link x
         counted = rw last-added e;
         low = subst (Low d) (sym last-added) w;
         sound = sound-more b a n link x s h (let z : size x ≤ 64 = omega arith in z) v;
+        tidy = adds-tidy m e t y;
       })
 
 -- ---- items and pieces

@@ -4,17 +4,19 @@ use mathlib.Core.Path.{_≡_, refl, sym, ap, subst, _∙_}
 use mathlib.Core.Bool.{Bool, true, false, _||_}
 use mathlib.Core.List.{List}
 use native.Mathlib.Omega.{arith}
+use native.Mathlib.Decide.{decLt}
 use lib.Dec.{ltb}
 use lib.ListN.{take}
 use borrow.Author.Tests.{lt-ltb, le-ltb, ne-eqb}
 use Rattle.buffer.specs.Table.{Maybe, none, some}
 use Rattle.refusals.specs.declared.Refusal.{Refusal}
 use Rattle.words.specs.declared.LogMetadata.{LogMetadata}
+use Rattle.words.specs.declared.LogFormat.{LogFormat}
 use Rattle.runs.specs.Runs.{runEnd}
 use Rattle.words.specs.Trying.{Tried, fit, misfit, refused}
 use Rattle.segments.specs.Segments.{LogSegment, LogSegments, text, specifier, group, isSpecifier, anySpecifier}
 use Rattle.segments.specs.Sizes.{size, sizes, Low, Lows, Narrow}
-use Rattle.segments.specs.Pool.{segmentAt, chainAt, Adds}
+use Rattle.segments.specs.Pool.{lastMember, segmentAt, chainAt, Adds}
 use Rattle.parts.specs.declared.Named.{Named}
 use Rattle.parts.specs.declared.Parts.{Parts}
 use Rattle.parts.specs.Parts.{hasSpecifier, specified, segmentOf}
@@ -24,6 +26,8 @@ use Rattle.building.specs.declared.Items.{Items}
 use Rattle.building.specs.declared.Pieces.{Pieces}
 use Rattle.building.specs.Reading.{Made, Reader, make, makeOr, plainByte, textTo, textAt, built, closed}
 use Rattle.building.specs.Told.{lastMade, tell, tellInner, tellItems, tellPieces, builtOf, Room, Fitted, Keeps, InnerKeeps, ItemsKeep, PiecesKeep}
+use Rattle.segments.proofs.Chains.{chain-none}
+use Rattle.segments.proofs.Growing.{tidy-kept}
 use Rattle.segments.proofs.Joining.{low-more}
 use Rattle.building.proofs.Bounds.{last-added, adds-keeps}
 
@@ -142,7 +146,7 @@ pub taken-fitted : (n link d : ℕ) (cells : List ℕ) (c : Items) → ItemsKeep
 unfolding InnerKeeps
 taken-fitted n link d cells c h q lo to j p u =
     let i = subst (λ (s : Inner). InnerKeeps n link d cells (c .made) s) q (h .inner) in
-    record { from = p; end = u; more = i .0; few = h .few; linked = i .1 .0; counted = i .1 .1 .0; low = i .1 .1 .1; sound = h .sound }
+    record { from = p; end = u; more = i .0; few = h .few; linked = i .1 .0; counted = i .1 .1 .0; low = i .1 .1 .1 .0; sound = h .sound; tidy = i .1 .1 .1 .1 }
 
 pub nothing-made : (n link d : ℕ) (cells : List ℕ) (c : Items) → ItemsKeep n link d cells c → c .inner ≡ Inner.Nothing → c .made ≡ n
 unfolding InnerKeeps
@@ -183,20 +187,29 @@ size-group s p n m h = omega arith
 
 module _ (b a : List ℕ) (n link : ℕ) (r : Room b n link) (u : n < 64) (lo to j : ℕ) (h : lo ≤ j) (g : j ≤ to) where
   pub text-keeps : (i k : ℕ) → Adds b a n link (text i k) → (d : ℕ) → Keeps lo to n link d b a (Reading.Fit j (n + 1))
-  text-keeps i k w d = adds-keeps b a n link (text i k) w (r .sound) u lo to j h g n (omega arith) (size-text i k n) d tt tt
+  text-keeps i k w d = adds-keeps b a n link (text i k) w (r .sound) u lo to j h g n (omega arith) (size-text i k n) d tt tt (λ o. o) (λ z. omega (arith, size-text i k n))
 
   pub specifier-keeps : (m : LogMetadata) (p : Parts) → Adds b a n link (specifier m (p .format)) → Narrow (p .format .width) → (d : ℕ)
       → Keeps lo to n link d b a (Reading.Fit j (n + 1))
-  specifier-keeps m p w v d = adds-keeps b a n link (specifier m (p .format)) w (r .sound) u lo to j h g n (omega arith) (size-specifier m p n) d v v
+  specifier-keeps m p w v d = adds-keeps b a n link (specifier m (p .format)) w (r .sound) u lo to j h g n (omega arith) (size-specifier m p n) d v v (λ o. o) (λ z. omega (arith, size-specifier m p n))
+
+-- a group that holds others has a last member
+held : (b : List ℕ) (l : ℕ) (f : LogFormat) → 1 < size (group (chainAt b l) f) → 0 < l
+unfolding size sizes
+held b l f h = elim (decLt 0 l) [
+  | yes g ↦ g
+  | no g ↦ let e = ap sizes (ap (chainAt b) (let z : l ≡ 0 = omega arith in z) ∙ chain-none b) in omega arith
+]
 
 pub group-keeps : (b a : List ℕ) (s : Pieces) (link : ℕ) → Room b (s .made) link → s .made < 64 → (lo to j : ℕ) → lo ≤ j → j ≤ to
-    → Adds b a (s .made) link (group (chainAt b (s .last)) (s .parts .format)) → (n d : ℕ) → PiecesKeep n d b s → d + 1 ≤ 8
+    → Adds b a (s .made) link (group (chainAt b (s .last)) (s .parts .format)) → lastMember a (s .made) ≡ s .last → (n d : ℕ) → PiecesKeep n d b s → d + 1 ≤ 8
     → Keeps lo to n link (d + 1) b a (Reading.Fit j (s .made + 1))
-group-keeps b a s link r u lo to j h g w n d k v =
+group-keeps b a s link r u lo to j h g w y n d k v =
     let z = k .counted in
     let l = low-group d (chainAt b (s .last)) (s .parts) (k .ready .narrow) (k .low) in
     adds-keeps b a (s .made) link (group (chainAt b (s .last)) (s .parts .format)) w (r .sound) u lo to j h g n (omega arith)
     (size-group (chainAt b (s .last)) (s .parts) n (s .made) z) (d + 1) l (low-more (d + 1) 8 (group (chainAt b (s .last)) (s .parts .format)) v l)
+    (tidy-kept b a n (s .made) (w .front) (omega arith) (k .tidy)) (λ q. y ∙ k .linked (held b (s .last) (s .parts .format) q))
 
 -- ---- bytes of a text
 

@@ -1,5 +1,5 @@
 -- Scaffolding, for proofs alone: what each case of the readers' answers says, and what a reader keeps besides its answer. Assumes nothing.
-use Prim.Native.Nat.{ℕ, _+_, _-_, _*_, _≤_}
+use Prim.Native.Nat.{ℕ, _+_, _-_, _*_, _≤_, _<_}
 use mathlib.Core.Path.{_≡_}
 use mathlib.Core.Bool.{Bool, true, false, _||_}
 use mathlib.Core.List.{List}
@@ -8,7 +8,7 @@ use Rattle.words.specs.Words.{parameterAt}
 use Rattle.words.specs.Trying.{Tried, fit, misfit, refused, _or-else_, _then_, further}
 use Rattle.segments.specs.Segments.{anySpecifier}
 use Rattle.segments.specs.Sizes.{size, sizes, Narrow, Low, Lows}
-use Rattle.segments.specs.Pool.{segmentAt, chainAt, back, Sound}
+use Rattle.segments.specs.Pool.{segmentAt, chainAt, back, Sound, Tidy}
 use Rattle.parts.specs.declared.Parts.{Parts}
 use Rattle.building.specs.declared.PartsRead.{PartsRead}
 use Rattle.building.specs.declared.Reading.{Reading}
@@ -111,6 +111,10 @@ pub record Room (cells : List ℕ) (n link : ℕ) : Type 0 where
   pub linked : link ≤ n
   pub sound : Sound cells n
 
+-- what is made from n up to k is tidy where what is made up to n is, and the link of the segment leads to the one made last, or nowhere
+abbrev pub StaysTidy : ℕ → ℕ → ℕ → List ℕ → Type 0
+StaysTidy n k link cells = Tidy cells n → (0 < link → link ≡ n) → Tidy cells k
+
 -- words that fit end from lo up to `to`
 unfoldable pub PartsWithin : ℕ → ℕ → PartsRead → Type 0
 PartsWithin lo to (PartsRead.Fit j p) = (lo ≤ j) × ((j ≤ to) × Narrow (p .format .width))
@@ -127,6 +131,7 @@ pub record Fitted (lo to n link d : ℕ) (cells : List ℕ) (j k : ℕ) : Type 0
   pub counted : size (segmentAt cells (k - 1)) + n ≡ k
   pub low : Low d (segmentAt cells (k - 1))
   pub sound : Sound cells k
+  pub tidy : StaysTidy n k link cells
 
 unfoldable pub ReadingWithin : ℕ → ℕ → ℕ → ℕ → ℕ → List ℕ → Reading → Type 0
 ReadingWithin lo to n link d cells (Reading.Fit j k) = Fitted lo to n link d cells j k
@@ -141,7 +146,7 @@ pub record Keeps (lo to n link d : ℕ) (before after : List ℕ) (r : Reading) 
 -- what a content has taken, having begun with n segments
 unfoldable pub InnerKeeps : ℕ → ℕ → ℕ → List ℕ → ℕ → Inner → Type 0
 InnerKeeps n link d cells made Inner.Nothing = made ≡ n
-InnerKeeps n link d cells made Inner.One = (n + 1 ≤ made) × ((back cells (made - 1) ≡ link) × ((size (segmentAt cells (made - 1)) + n ≡ made) × Low d (segmentAt cells (made - 1))))
+InnerKeeps n link d cells made Inner.One = (n + 1 ≤ made) × ((back cells (made - 1) ≡ link) × ((size (segmentAt cells (made - 1)) + n ≡ made) × (Low d (segmentAt cells (made - 1)) × StaysTidy n made link cells)))
 InnerKeeps n link d cells made Inner.Several = Unit {0}
 
 -- a segment that was taken was made
@@ -181,6 +186,8 @@ pub record PiecesKeep (n d : ℕ) (cells : List ℕ) (g : Pieces) : Type 0 where
   pub sound : Sound cells (g .made)
   pub counted : sizes (chainAt cells (g .last)) + n ≡ g .made
   pub low : Lows d (chainAt cells (g .last))
+  pub linked : 0 < g .last → g .last ≡ g .made
+  pub tidy : Tidy cells n → Tidy cells (g .made)
 
 unfoldable pub PieceWithin : ℕ → ℕ → ℕ → ℕ → List ℕ → PieceRead → Type 0
 PieceWithin lo to n d cells (PieceRead.Fit j g) = (lo ≤ j) × ((j ≤ to) × PiecesKeep n d cells g)

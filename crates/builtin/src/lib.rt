@@ -95,13 +95,7 @@ fn put_row_for_host(k: usize, out: &mut [u8]) -> usize
 }
 
 // Writes a built-in template to the front of the buffer where it fits, and returns its length.
-pub fn put_builtin(
-    style: Style,
-    location: bool,
-    timestamp: bool,
-    host: bool,
-    out: &mut [u8],
-) -> usize
+fn put_builtin(style: Style, location: bool, timestamp: bool, host: bool, out: &mut [u8]) -> usize
     ensures { λ r. ⌜ Writes (now (out .entry)) (now (out .exit)) (builtinText style location timestamp host) r ⌝ }
 {
     let k = row_of(style, location, timestamp);

@@ -3,8 +3,9 @@ use mathlib.Core.Path.{_≡_, refl, ap, sym, _∙_}
 use mathlib.Core.Bool.{Bool, true, false, not, _||_, _&&_}
 use mathlib.Core.List.{List}
 use Prim.Native.Nat.{ℕ, _-_, _/_, _%_, _≤_, _<_}
-use lib.Dec.{eqb}
-use borrow.Author.Tests.{le-leb, lt-leb}
+use native.Mathlib.Omega.{arith}
+use lib.Dec.{eqb, ltb}
+use borrow.Author.Tests.{le-leb, lt-leb, lt-ltb, le-ltb, eq-eqb, ne-eqb}
 use Rattle.utf8.specs.Utf8.{valid}
 use lib.ListN.{length}
 use Rattle.buffer.specs.Bytes.{part}
@@ -14,7 +15,7 @@ use Rattle.refusals.specs.declared.Refusal.{Refusal}
 use Rattle.record.specs.declared.Places.{Places}
 use Rattle.record.specs.Layout.{Laid}
 use Rattle.record.specs.Placed.{laidBy, PlacesWithin}
-use Rattle.checks.specs.Checks.{badNumbers, absentButThere, badlyMarked, fieldRefusal, orNext, fieldsRefusal, recordRefusal}
+use Rattle.checks.specs.Checks.{hostWithoutLevel, badNumbers, absentButThere, badlyMarked, fieldRefusal, orNext, fieldsRefusal, recordRefusal}
 use Rattle.record.specs.Contents.{hasFile, hasLine, hasModule}
 
 -- ---- four tests, one after the other
@@ -32,7 +33,33 @@ module _ (a b c e : Bool) where
   pub at-last : a ≡ false → b ≡ false → c ≡ false → e ≡ (a || b || c || e)
   at-last p q r = rw (p, q, r)
 
+  -- the same where the second and the third are one test
+  pub at-middle : a ≡ false → (b || c) ≡ true → true ≡ (a || b || c || e)
+  at-middle p q = rw (p, q)
+
+  pub past-middle : a ≡ false → (b || c) ≡ false → e ≡ (a || b || c || e)
+  past-middle p q = rw (p, q)
+
 -- ---- refusal 14
+
+and-true : (b : Bool) → b ≡ (b && true)
+and-true true = refl
+and-true false = refl
+
+and-false : (b : Bool) → false ≡ (b && false)
+and-false true = refl
+and-false false = refl
+
+-- the tests of a level's number, by what the number means
+module _ (source number : ℕ) where
+  pub of-print : number ≡ 0 → eqb source 1 ≡ (ltb 5 number || hostWithoutLevel source number)
+  of-print e = rw (le-ltb 5 number (omega arith), eq-eqb number 0 e) (and-true (eqb source 1))
+
+  pub of-level : (0 < number) × (number ≤ 5) → false ≡ (ltb 5 number || hostWithoutLevel source number)
+  of-level h = rw (le-ltb 5 number (h .1), ne-eqb number 0 (λ e. omega (arith, h .0))) (and-false (eqb source 1))
+
+  pub of-refused : 5 < number → true ≡ (ltb 5 number || hostWithoutLevel source number)
+  of-refused h = rw (lt-ltb 5 number h)
 
 -- the parts of refusal 14, told of places
 pub marked : (p : Places) (d : List ℕ) → PlacesWithin (length d) p → badlyMarked (laidBy p d)

@@ -1,5 +1,7 @@
 // The checks of a record: refusal 14, then 11 and 12 for each text in turn.
+use record::Level;
 use record::Places;
+use record::levels::level_of;
 use record::marks::has_file;
 use record::marks::has_line;
 use record::marks::has_module;
@@ -7,6 +9,8 @@ use refusals::Refusal;
 use utf8::is_utf8;
 ghost use mathlib.Core.Path.{_≡_};
 ghost use Prim.Native.Nat.{_≤_};
+ghost use mathlib.Core.Bool.{_||_};
+ghost use lib.Dec.{ltb};
 ghost use lib.ListN.{length};
 ghost use Rattle.buffer.specs.Bytes.{part};
 ghost use Rattle.record.specs.Placed.{laidBy, PlacesWithin};
@@ -19,13 +23,16 @@ pub enum Checked {
     Refused(Refusal),
 }
 
-fn host_without_level(source: usize, level: usize) -> bool
-    ensures { λ r. ⌜ r ≡ hostWithoutLevel source level ⌝ }
+// "level over 5, host without level": what the number means says which.
+fn bad_level(source: usize, number: usize) -> bool
+    ensures { λ r. ⌜ r ≡ (ltb 5 number || hostWithoutLevel source number) ⌝ }
 {
-    if source == 1 {
-        return level == 0;
+    let level = level_of(number);
+    match level {
+        Level::Print => source == 1,
+        Level::Named(_, _) => false,
+        Level::Refused => true,
     }
-    false
 }
 
 fn absent_but_there(present: bool, n: usize) -> bool
@@ -44,10 +51,7 @@ fn bad_numbers(source: usize, level: usize, mask: usize) -> bool
     if 1 < source {
         return true;
     }
-    if 5 < level {
-        return true;
-    }
-    if host_without_level(source, level) {
+    if bad_level(source, level) {
         return true;
     }
     7 < mask

@@ -1,5 +1,11 @@
-pub mod Entries
+pub mod Calls
+pub mod Defined
 pub mod Holds
+pub mod Numbers
 pub mod OfLines
 pub mod Quiet
+pub mod Records
 pub mod Sharp
+pub mod Sheets
+pub mod Templates
+pub mod TwoCalls

@@ -20,9 +20,11 @@ use Rattle.segments.specs.Segments as segments
 use Rattle.record.specs.declared.Source.{Source}
 use Rattle.record.specs.declared.Source.the-variants.{Defmt, Host}
 use Rattle.record.specs.declared.Level.{Level}
-use Rattle.record.specs.declared.Level.the-variants.{Print, Error, Warn, Info, Debug, Trace}
+use Rattle.record.specs.declared.Level.the-variants.{Print, Named, Refused}
+use Rattle.record.specs.declared.Name.{Name}
+use Rattle.record.specs.declared.Name.the-variants.{Error, Warn, Info, Debug, Trace}
 use Rattle.record.specs.Records.{Given, absent, given, Record}
-use Rattle.formats.specs.Levels.{nameOf}
+use Rattle.record.specs.Levels.{levelName, nameOf}
 use Rattle.paths.specs.Paths.{before-first, pieces, isDropped, kept, root, components, lastOf, slashed, joinedBySlash, fileName, after-byte, beforeColons}
 use Rattle.fields.specs.Texts.{noCrate, noFile, noModule, noTime, orPlaceholder, there, digits, decimalText, notEmpty, timeOf, wording}
 use Rattle.fields.specs.Lines.{inFormat, messageFrom, specifierShown, segmentShown, segmentsShown, recordShown}
@@ -140,13 +142,17 @@ free-digits (suc k) n = free-digits-at n (ltb n 10) (digits k (n / 10)) (free-di
 
 -- ---- every specifier
 
-free-name : (l : Level) → Free (nameOf l)
-free-name Print = tt
-free-name Error = free-by-test (nameOf Error) refl
-free-name Warn = free-by-test (nameOf Warn) refl
-free-name Info = free-by-test (nameOf Info) refl
-free-name Debug = free-by-test (nameOf Debug) refl
-free-name Trace = free-by-test (nameOf Trace) refl
+free-name : (n : Name) → Free (levelName n)
+free-name Error = free-by-test (levelName Error) refl
+free-name Warn = free-by-test (levelName Warn) refl
+free-name Info = free-by-test (levelName Info) refl
+free-name Debug = free-by-test (levelName Debug) refl
+free-name Trace = free-by-test (levelName Trace) refl
+
+free-level : (l : Level) → Free (nameOf l)
+free-level Print = tt
+free-level (Named n c) = free-name n
+free-level Refused = tt
 
 free-not-empty : (t : List ℕ) → Free t → FreeMaybe (notEmpty t)
 unfolding notEmpty
@@ -165,7 +171,7 @@ free-wording r f (FileName n) = free-or noFile (free-by-test noFile refl) (there
 free-wording r f FilePath = free-or noFile (free-by-test noFile refl) (there some (r .file)) (free-there some (λ t h. h) (r .file) (f .file))
 free-wording r f LineNumber = free-digits 10 (r .line)
 free-wording r f Log = f .message
-free-wording r f LogLevel = free-name (r .level)
+free-wording r f LogLevel = free-level (r .level)
 free-wording r f ModulePath = free-or noModule (free-by-test noModule refl) (there some (r .modulePath)) (free-there some (λ t h. h) (r .modulePath) (f .modulePath))
 free-wording r f Timestamp = free-or noTime (free-by-test noTime refl) (timeOf (r .source) (r .timestamp)) (free-time (r .source) (r .timestamp) (f .timestamp))
 
@@ -202,8 +208,5 @@ mutual
 pub quiet-record : (l : Level) (t : List ℕ) (r : Record) → FreeRecord r → (s : LogSegments) → FreeSegments t s → Quiets (recordShown l t r s)
 unfolding recordShown
 quiet-record Print t r f s h = (f .message, tt)
-quiet-record Error t r f s h = quiet-segments t r f s h
-quiet-record Warn t r f s h = quiet-segments t r f s h
-quiet-record Info t r f s h = quiet-segments t r f s h
-quiet-record Debug t r f s h = quiet-segments t r f s h
-quiet-record Trace t r f s h = quiet-segments t r f s h
+quiet-record (Named n c) t r f s h = quiet-segments t r f s h
+quiet-record Refused t r f s h = (f .message, tt)

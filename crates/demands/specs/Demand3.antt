@@ -32,7 +32,9 @@ lost s f t = min (due s f t) (inserted (prefixIn (s .colour) (f .look)) t)
 
 -- by exactly that its padding is less than the padding due, and what is seen of it falls short of its extent
 pub record FallsShort (s : Settings) (f : Format) (t : List ℕ) : Type 0 where
+  -- this unfolds what `padded` is defined as in that mode
   pub padding : padded s f t + lost s f t ≡ due s f t
+  -- this says something of the bytes written: what is seen of them is short by that much
   pub filled : seen s f t + lost s f t ≡ extent s f t
 
 -- ---- the demand

@@ -1,6 +1,9 @@
 pub mod Builtins
+pub mod CallDemand3
+pub mod Conditions
+pub mod Demand1
+pub mod Demand2
 pub mod Demand3
-pub mod Entries
 pub mod Examples
 pub mod Lines
 pub mod OneLine

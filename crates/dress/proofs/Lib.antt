@@ -1,2 +1,4 @@
+pub mod Comparing
+pub mod Inserting
 pub mod Moving
 pub mod Laying

@@ -14,10 +14,10 @@ use Rattle.record.specs.declared.Places.{Places}
 use Rattle.record.specs.declared.Source.{Source}
 use Rattle.record.specs.Records.{Given, absent, given, Record}
 use Rattle.record.specs.Placed.{laidBy}
-use Rattle.record.specs.Contents.{hasFile, hasModule, givenIf, sourceOf, levelOf, recordOf}
+use Rattle.record.specs.Levels.{levelOf, nameOf}
+use Rattle.record.specs.Contents.{hasFile, hasModule, givenIf, sourceOf, recordOf}
 use Rattle.fields.specs.declared.Fixed.{Fixed}
 use Rattle.fields.specs.declared.Wording.{Wording}
-use Rattle.formats.specs.Levels.{nameOf}
 use Rattle.paths.specs.Paths.{fileName, beforeColons}
 use Rattle.fields.specs.Texts.{noCrate, noFile, noModule, noTime, orPlaceholder, there, notEmpty, timeOf, wording}
 use Rattle.fields.specs.Wordings.{fixedText, bytesOf}

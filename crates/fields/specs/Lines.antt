@@ -12,7 +12,7 @@ use Rattle.segments.specs.Segments.{LogSegment, LogSegments, text, specifier, g
 use Rattle.record.specs.declared.Source.{Source}
 use Rattle.record.specs.declared.Source.the-variants.{Defmt, Host}
 use Rattle.record.specs.declared.Level.{Level}
-use Rattle.record.specs.declared.Level.the-variants.{Print, Error, Warn, Info, Debug, Trace}
+use Rattle.record.specs.declared.Level.the-variants.{Print, Named, Refused}
 use Rattle.record.specs.Records.{Record}
 use Rattle.fields.specs.Texts.{wording}
 use Rattle.formats.specs.Formats.{specifierFormat, groupFormat}
@@ -48,14 +48,11 @@ unfoldable mutual
   segmentsShown t r none = shown.none
   segmentsShown t r (more x rest) = shown.more (segmentShown t r x) (segmentsShown t r rest)
 
--- "0 is a print without level: the line is the message alone, unpadded"
+-- "0 is a print without level: the line is the message alone, unpadded"; a record with a refused level is never shown, and is taken as one
 unfoldable pub recordShown : Level → List ℕ → Record → LogSegments → Members
 recordShown Print t r s = shown.more (shown.text (r .message)) shown.none
-recordShown Error t r s = segmentsShown t r s
-recordShown Warn t r s = segmentsShown t r s
-recordShown Info t r s = segmentsShown t r s
-recordShown Debug t r s = segmentsShown t r s
-recordShown Trace t r s = segmentsShown t r s
+recordShown (Named n c) t r s = segmentsShown t r s
+recordShown Refused t r s = shown.more (shown.text (r .message)) shown.none
 
 -- the line of a record, by a template t that was read as the segments s
 unfoldable pub lineOf : Settings → List ℕ → LogSegments → Record → List ℕ

@@ -10,8 +10,8 @@ use Rattle.words.specs.declared.LogMetadata.{LogMetadata}
 use Rattle.words.specs.declared.LogMetadata.the-variants.{CrateName, FileName, FilePath, LineNumber, Log, LogLevel, ModulePath, Timestamp}
 use Rattle.record.specs.declared.Source.{Source}
 use Rattle.record.specs.declared.Source.the-variants.{Defmt, Host}
+use Rattle.record.specs.Levels.{nameOf}
 use Rattle.record.specs.Records.{Given, absent, given, Record}
-use Rattle.formats.specs.Levels.{nameOf}
 use Rattle.paths.specs.Paths.{fileName, beforeColons}
 
 -- ---- placeholders

@@ -7,8 +7,8 @@ use Rattle.buffer.specs.Bytes.{part}
 use Rattle.fields.specs.declared.Fixed.{Fixed}
 use Rattle.fields.specs.declared.Wording.{Wording}
 use Rattle.paths.specs.Paths.{fileName}
-use Rattle.formats.specs.Levels.{nameOf}
-use Rattle.record.specs.declared.Level.{Level}
+use Rattle.record.specs.declared.Name.{Name}
+use Rattle.record.specs.Levels.{levelName}
 use Rattle.fields.specs.Texts.{noCrate, noFile, noModule, noTime, orPlaceholder, decimalText}
 
 -- placeholders and the names of levels
@@ -18,11 +18,11 @@ fixedText Fixed.Crate = noCrate
 fixedText Fixed.File = noFile
 fixedText Fixed.ModulePath = noModule
 fixedText Fixed.Time = noTime
-fixedText Fixed.Error = nameOf Level.Error
-fixedText Fixed.Warn = nameOf Level.Warn
-fixedText Fixed.Info = nameOf Level.Info
-fixedText Fixed.Debug = nameOf Level.Debug
-fixedText Fixed.Trace = nameOf Level.Trace
+fixedText Fixed.Error = levelName Name.Error
+fixedText Fixed.Warn = levelName Name.Warn
+fixedText Fixed.Info = levelName Name.Info
+fixedText Fixed.Debug = levelName Name.Debug
+fixedText Fixed.Trace = levelName Name.Trace
 
 -- the last n path components from place i up to place e, joined: "A present file with no component left gives `<file>`"
 abbrev pub nameText : ℕ → ℕ → ℕ → List ℕ → List ℕ

@@ -1,5 +1,6 @@
 // What each specifier shows of a record.
 use record::Level;
+use record::Name;
 use record::Places;
 use record::Source;
 use record::levels::level_of;
@@ -13,10 +14,10 @@ ghost use Prim.Native.Nat.{_+_, _<_, _≤_};
 ghost use lib.ListN.{length, getD};
 ghost use Rattle.buffer.specs.Bytes.{bytes, part, same};
 ghost use Rattle.record.specs.Placed.{laidBy, PlacesWithin};
+ghost use Rattle.record.specs.Levels.{nameOf};
 ghost use Rattle.record.specs.Contents.{recordOf};
 ghost use Rattle.paths.specs.Paths.{beforeColons};
 ghost use Rattle.fields.specs.Texts.{noCrate, orPlaceholder, wording};
-ghost use Rattle.formats.specs.Levels.{nameOf};
 ghost use Rattle.fields.specs.Wordings.{fixedText, Tells};
 ghost use Rattle.fields.specs.Worded.{Worded, WordedAnywhere};
 
@@ -59,17 +60,20 @@ pub fn wording_of(d: &[u8], p: Places, m: LogMetadata) -> Wording
     }
 }
 
-// "ERROR, WARN, INFO, DEBUG, TRACE"; a print has no name.
+// The name that the level number was taken apart into, as a fixed text; a print has none.
 fn build_log_level(l: Level) -> Fixed
     ensures { λ r. ⌜ fixedText r ≡ nameOf l ⌝ }
 {
     match l {
         Level::Print => Fixed::Empty,
-        Level::Error => Fixed::Error,
-        Level::Warn => Fixed::Warn,
-        Level::Info => Fixed::Info,
-        Level::Debug => Fixed::Debug,
-        Level::Trace => Fixed::Trace,
+        Level::Named(name, _) => match name {
+            Name::Error => Fixed::Error,
+            Name::Warn => Fixed::Warn,
+            Name::Info => Fixed::Info,
+            Name::Debug => Fixed::Debug,
+            Name::Trace => Fixed::Trace,
+        },
+        Level::Refused => Fixed::Empty,
     }
 }
 

@@ -14,6 +14,12 @@ ghost use Rattle.paths.specs.Remaining.{remaining};
 ghost use Rattle.measure.specs.Measures.{grown, Small};
 ghost use Rattle.fields.specs.Wordings.{nameText};
 
+// "A present file with no component left gives `<file>`".
+const FILE: [u8; 6] = *b"<file>";
+
+// What components are joined by.
+const SLASH: [u8; 1] = *b"/";
+
 // Measures the last n components of the path from place i up to place e.
 pub fn add_file_name(d: &[u8], i: usize, e: usize, n: usize, a: Measure) -> Measure
     requires { ⌜ (i ≤ e) × (e ≤ length (now d)) ⌝ }
@@ -22,7 +28,7 @@ pub fn add_file_name(d: &[u8], i: usize, e: usize, n: usize, a: Measure) -> Meas
 {
     let first = first_shown(d, i, e, n);
     let Component::At(from, to) = first else {
-        return add(a, b"<file>");
+        return add(a, &FILE);
     };
     let b = add(a, &d[from..to]);
     add_slashed(d, to, e, b)
@@ -41,7 +47,7 @@ fn add_slashed(d: &[u8], i: usize, e: usize, a: Measure) -> Measure
         let Component::At(from, to) = c else {
             return b;
         };
-        b = add(b, b"/");
+        b = add(b, &SLASH);
         b = add(b, &d[from..to]);
         k = to;
     }
@@ -55,7 +61,7 @@ pub fn file_name_len(d: &[u8], i: usize, e: usize, n: usize) -> usize
 {
     let first = first_shown(d, i, e, n);
     let Component::At(from, to) = first else {
-        return 6;
+        return FILE.len();
     };
     to - from + slashed_len(d, to, e)
 }
@@ -73,7 +79,7 @@ fn slashed_len(d: &[u8], i: usize, e: usize) -> usize
         let Component::At(from, to) = c else {
             return b;
         };
-        b += 1 + (to - from);
+        b += SLASH.len() + (to - from);
         k = to;
     }
 }
@@ -86,7 +92,7 @@ pub fn put_file_name(d: &[u8], i: usize, e: usize, n: usize, out: &mut [u8], at:
 {
     let first = first_shown(d, i, e, n);
     let Component::At(from, to) = first else {
-        return put(out, at, b"<file>");
+        return put(out, at, &FILE);
     };
     let y = put(out, at, &d[from..to]);
     put_slashed(d, to, e, out, y)
@@ -105,7 +111,7 @@ fn put_slashed(d: &[u8], i: usize, e: usize, out: &mut [u8], at: usize) -> usize
         let Component::At(from, to) = c else {
             return y;
         };
-        y = put(out, y, b"/");
+        y = put(out, y, &SLASH);
         y = put(out, y, &d[from..to]);
         k = to;
     }

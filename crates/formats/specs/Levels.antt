@@ -1,44 +1,26 @@
--- Levels: their numbers, names and colours (document 01, "Building a line"). Assumes nothing.
-use Prim.Native.Nat.{ℕ}
-use mathlib.Core.Bool.{Bool, true, false}
-use mathlib.Core.List.{List, [], _∷_}
-use lib.Dec.{eqb}
-use Rattle.buffer.specs.Bytes.{bytes}
-use Rattle.buffer.specs.Table.{Maybe, none, some}
-use Rattle.words.specs.declared.Color.{Color}
-use Rattle.words.specs.declared.Color.the-variants.{Red, Yellow, Green, BrightWhite, BrightBlack}
+-- The colour that a level gives, and where it applies (document 01, "Building a line"). Assumes nothing.
 use Rattle.words.specs.declared.LogColor.{LogColor}
 use Rattle.colour.specs.declared.Ink.{Ink}
 use Rattle.colour.specs.declared.Ink.the-variants.{Bare, Inked}
+use Rattle.record.specs.declared.Name.the-variants.{Error, Warn, Info, Debug, Trace}
 use Rattle.record.specs.declared.Level.{Level}
-use Rattle.record.specs.declared.Level.the-variants.{Print, Error, Warn, Info, Debug, Trace}
+use Rattle.record.specs.declared.Level.the-variants.{Print, Named, Refused}
 
--- "ERROR, WARN, INFO, DEBUG, TRACE"
-abbrev pub nameOf : Level → List ℕ
-nameOf Print = []
-nameOf Error = bytes "ERROR"
-nameOf Warn = bytes "WARN"
-nameOf Info = bytes "INFO"
-nameOf Debug = bytes "DEBUG"
-nameOf Trace = bytes "TRACE"
-
--- "coloured red, yellow, green, bright white, bright black"
+-- "coloured red, yellow, green, bright white, bright black": the colour beside the name in the table of levels
 abbrev pub severity : Level → Ink
 severity Print = Bare
-severity Error = Inked Red
-severity Warn = Inked Yellow
-severity Info = Inked Green
-severity Debug = Inked BrightWhite
-severity Trace = Inked BrightBlack
+severity (Named n c) = Inked c
+severity Refused = Bare
 
 -- "`werror` colours 1 and 2 only"
 abbrev pub warning : Level → Ink
 warning Print = Bare
-warning Error = severity Error
-warning Warn = severity Warn
-warning Info = Bare
-warning Debug = Bare
-warning Trace = Bare
+warning (Named Error c) = Inked c
+warning (Named Warn c) = Inked c
+warning (Named Info c) = Bare
+warning (Named Debug c) = Bare
+warning (Named Trace c) = Bare
+warning Refused = Bare
 
 -- the colour that applies where one is asked for, or a specifier's own where none is
 abbrev pub inkFor : Level → Ink → LogColor → Ink

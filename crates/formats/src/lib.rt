@@ -1,42 +1,44 @@
-// The format of a specifier or a group: what is asked for, with defaults and the level's colour in the places left open.
+// The format of a specifier or a group: what is asked for, with defaults and the level's colour in the places left open. The level goes by its
+// number: most segments ask for no colour of a level, and then the number isn't taken apart.
 use colour::Format;
 use colour::Ink;
 use colour::Look;
 use levels::color_for_log_level;
 use levels::color_for_warnings;
-use record::Level;
+use record::levels::level_of;
 use words::LogColor;
 use words::LogFormat;
 use words::LogMetadata;
 use words::Width;
 ghost use mathlib.Core.Path.{_≡_};
+ghost use Rattle.record.specs.Levels.{levelOf};
 ghost use Rattle.formats.specs.Levels.{inkFor};
 ghost use Rattle.formats.specs.Formats.{defaultWidth, ownInk, widthFor, formatFor, specifierFormat, groupFormat};
 
 pub mod levels;
 
-pub fn specifier_format(l: Level, m: LogMetadata, f: LogFormat) -> Format
-    ensures { λ r. ⌜ r ≡ specifierFormat l m f ⌝ }
+pub fn specifier_format(number: usize, m: LogMetadata, f: LogFormat) -> Format
+    ensures { λ r. ⌜ r ≡ specifierFormat (levelOf number) m f ⌝ }
 {
-    format_for(l, default_width(m), own_ink(l, m), f)
+    format_for(number, default_width(m), own_ink(number, m), f)
 }
 
-pub fn group_format(l: Level, f: LogFormat) -> Format
-    ensures { λ r. ⌜ r ≡ groupFormat l f ⌝ }
+pub fn group_format(number: usize, f: LogFormat) -> Format
+    ensures { λ r. ⌜ r ≡ groupFormat (levelOf number) f ⌝ }
 {
-    format_for(l, 0, Ink::Bare, f)
+    format_for(number, 0, Ink::Bare, f)
 }
 
 // What is asked for, over a default width and a colour of its own.
-fn format_for(l: Level, width: usize, own: Ink, f: LogFormat) -> Format
-    ensures { λ r. ⌜ r ≡ formatFor l width own f ⌝ }
+fn format_for(number: usize, width: usize, own: Ink, f: LogFormat) -> Format
+    ensures { λ r. ⌜ r ≡ formatFor (levelOf number) width own f ⌝ }
 {
     let asked = f.width;
     let color = f.color;
     let styles = f.styles;
     let alignment = f.alignment;
     let padding = f.padding;
-    let ink = ink_for(l, own, color);
+    let ink = ink_for(number, own, color);
     Format {
         width: width_for(width, asked),
         alignment: alignment,
@@ -62,8 +64,8 @@ fn default_width(m: LogMetadata) -> usize
 }
 
 // "`{L}` takes its level's colour unless another is asked"
-fn own_ink(l: Level, m: LogMetadata) -> Ink
-    ensures { λ r. ⌜ r ≡ ownInk l m ⌝ }
+fn own_ink(number: usize, m: LogMetadata) -> Ink
+    ensures { λ r. ⌜ r ≡ ownInk (levelOf number) m ⌝ }
 {
     match m {
         LogMetadata::CrateName => Ink::Bare,
@@ -71,7 +73,7 @@ fn own_ink(l: Level, m: LogMetadata) -> Ink
         LogMetadata::FilePath => Ink::Bare,
         LogMetadata::LineNumber => Ink::Bare,
         LogMetadata::Log => Ink::Bare,
-        LogMetadata::LogLevel => color_for_log_level(l),
+        LogMetadata::LogLevel => color_for_log_level(level_of(number)),
         LogMetadata::ModulePath => Ink::Bare,
         LogMetadata::Timestamp => Ink::Bare,
     }
@@ -87,13 +89,13 @@ fn width_for(own: usize, asked: Width) -> usize
 }
 
 // The colour that applies where one is asked for, or a specifier's own where none is.
-fn ink_for(l: Level, own: Ink, asked: LogColor) -> Ink
-    ensures { λ r. ⌜ r ≡ inkFor l own asked ⌝ }
+fn ink_for(number: usize, own: Ink, asked: LogColor) -> Ink
+    ensures { λ r. ⌜ r ≡ inkFor (levelOf number) own asked ⌝ }
 {
     match asked {
         LogColor::Unasked => own,
         LogColor::Color(c) => Ink::Inked(c),
-        LogColor::SeverityLevel => color_for_log_level(l),
-        LogColor::WarnError => color_for_warnings(l),
+        LogColor::SeverityLevel => color_for_log_level(level_of(number)),
+        LogColor::WarnError => color_for_warnings(level_of(number)),
     }
 }

@@ -14,10 +14,11 @@ use Rattle.words.specs.declared.LogMetadata.{LogMetadata}
 use Rattle.words.specs.declared.LogMetadata.the-variants.{CrateName, FileName, FilePath, LineNumber, Log, LogLevel, ModulePath, Timestamp}
 use Rattle.record.specs.declared.Source.{Source}
 use Rattle.record.specs.declared.Level.{Level}
-use Rattle.record.specs.declared.Level.the-variants.{Print, Error, Warn, Info, Debug, Trace}
+use Rattle.record.specs.declared.Level.the-variants.{Print, Named, Refused}
+use Rattle.record.specs.declared.Name.the-variants.{Error, Warn, Info, Debug, Trace}
 use Rattle.record.specs.Layout.{Laid}
-use Rattle.record.specs.Contents.{sourceOf, levelOf, hasFile, hasModule, givenIf, recordOf}
-use Rattle.formats.specs.Levels.{nameOf}
+use Rattle.record.specs.Levels.{levelOf, nameOf}
+use Rattle.record.specs.Contents.{sourceOf, hasFile, hasModule, givenIf, recordOf}
 use Rattle.paths.specs.Paths.{before-first, pieces, isDropped, kept, root, components, lastOf, slashed, joinedBySlash, fileName, after-byte, beforeColons}
 use Rattle.fields.specs.Texts.{noCrate, noFile, noModule, noTime, orPlaceholder, there, digits, decimalText, notEmpty, timeOf, wording}
 use Rattle.leaves.specs.Places.{Short}
@@ -124,11 +125,12 @@ digits-small (suc k) n = elim (decLt n 10) [
 
 name-small : (l : Level) → length (nameOf l) ≤ 5
 name-small Print = omega arith
-name-small Error = omega arith
-name-small Warn = omega arith
-name-small Info = omega arith
-name-small Debug = omega arith
-name-small Trace = omega arith
+name-small (Named Error c) = omega arith
+name-small (Named Warn c) = omega arith
+name-small (Named Info c) = omega arith
+name-small (Named Debug c) = omega arith
+name-small (Named Trace c) = omega arith
+name-small Refused = omega arith
 
 time-within : (q : Source) (t : List ℕ) → Within (length t) (timeOf q t)
 unfolding timeOf notEmpty

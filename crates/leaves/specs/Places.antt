@@ -8,7 +8,8 @@ use Rattle.record.specs.declared.Places.{Places}
 use Rattle.record.specs.Records.{Record}
 use Rattle.record.specs.Layout.{Laid}
 use Rattle.record.specs.Placed.{laidBy, PlacesWithin}
-use Rattle.record.specs.Contents.{sourceOf, levelOf, recordOf}
+use Rattle.record.specs.Levels.{levelOf}
+use Rattle.record.specs.Contents.{sourceOf, recordOf}
 
 unfoldable pub placesOf : List ℕ → Places
 placesOf n = record {

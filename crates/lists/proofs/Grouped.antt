@@ -19,7 +19,7 @@ use Rattle.segments.specs.Sizes.{size, sizes, Low, Lows, Narrow}
 use Rattle.segments.specs.Pool.{segmentAt, chainAt, back, Sound}
 use Rattle.segments.proofs.Fronts.{chain-front}
 use Rattle.segments.proofs.Chains.{chain-none, chain-step}
-use Rattle.segments.proofs.Growing.{sound-front}
+use Rattle.segments.proofs.Growing.{sound-front, tidy-kept}
 use Rattle.segments.proofs.Joining.{sizes-and-then, any-and-then, lows-and-then}
 use Rattle.parts.specs.declared.Parts.{Parts}
 use Rattle.parts.specs.Parts.{noParts, withParameter}
@@ -47,6 +47,8 @@ pieces-after n d b a g h f =
       sound = sound-front b a (g .made) (h .sound) f;
       counted = subst (λ (x : LogSegments). sizes x + n ≡ g .made) s (h .counted);
       low = subst (Lows d) s (h .low);
+      linked = h .linked;
+      tidy = tidy-kept b a n (g .made) f (let z = h .counted in omega arith) (h .tidy);
     }
 
 pub ready-after : (b a : List ℕ) (g : Pieces) → PiecesReady b g → take (8 * g .made) a ≡ take (8 * g .made) b → PiecesReady a g
@@ -88,6 +90,8 @@ module _ (lo to d : ℕ) (b a : List ℕ) (g : Pieces) (j k : ℕ) (u : g .last 
         sound = h .sound;
         counted = (let s : sizes (chainAt a k) + n ≡ k = omega arith in s);
         low = subst (Lows d) (sym chain-grown) (lows-and-then d (chainAt b (g .last)) (segmentAt a (k - 1)) (v .low) (h .low));
+        linked = λ z. refl;
+        tidy = λ o. h .tidy (tidy-kept b a n (g .made) f (omega arith) (v .tidy) o) (v .linked);
       })
 
 -- ---- `%` and its parameter
@@ -135,6 +139,8 @@ asked-kept n d cells g q h w = record {
   sound = h .sound;
   counted = h .counted;
   low = h .low;
+  linked = h .linked;
+  tidy = h .tidy;
 }
 
 -- ---- a piece that is no brace
@@ -249,6 +255,8 @@ begins-kept cells n d link p q h =
       sound = h .sound;
       counted = subst (λ (x : LogSegments). sizes x + n ≡ n) s (let l : 0 + n ≡ n = omega arith in l);
       low = subst (Lows d) s tt;
+      linked = λ z. omega arith;
+      tidy = λ o. o;
     }
 
 module _ (t : List ℕ) (brace : Reader) (i e n : ℕ) (x : Tried Group) (w : repeated (pieceAt t brace e) (e - i) i (noGroup n) ≡ x) where

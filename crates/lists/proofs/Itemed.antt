@@ -15,7 +15,7 @@ use Rattle.segments.specs.Segments.{LogSegment}
 use Rattle.segments.specs.Sizes.{size, Low}
 use Rattle.segments.specs.Pool.{segmentAt, back, Sound}
 use Rattle.segments.proofs.Fronts.{segment-front, back-front}
-use Rattle.segments.proofs.Growing.{sound-front}
+use Rattle.segments.proofs.Growing.{sound-front, tidy-kept}
 use Rattle.parts.specs.declared.Parts.{Parts}
 use Rattle.parts.specs.Parts.{withParameter}
 use Rattle.building.specs.declared.PartsRead.{PartsRead}
@@ -24,7 +24,7 @@ use Rattle.building.specs.declared.Inner.{Inner}
 use Rattle.building.specs.declared.Items.{Items}
 use Rattle.building.specs.declared.ItemRead.{ItemRead}
 use Rattle.building.specs.Reading.{Made, Reader, Taken, one, several, nothing, Content, wordAt, innerAt, withWords, taking, withSegment, oddItem, evenItem, itemAt}
-use Rattle.building.specs.Told.{tellParts, lastMade, tell, tellInner, tellItems, tellItem, plainItem, itemOf, nextInner, withLast, PartsWithin, Fitted, InnerKeeps, Room, InnerMade, ItemsReady, ItemsKeep, ItemWithin}
+use Rattle.building.specs.Told.{tellParts, lastMade, tell, tellInner, tellItems, tellItem, plainItem, itemOf, nextInner, withLast, PartsWithin, StaysTidy, Fitted, InnerKeeps, Room, InnerMade, ItemsReady, ItemsKeep, ItemWithin}
 use Rattle.building.proofs.Answers.{parts-fit, parts-misfit, parts-refused, reading-fit, reading-misfit, reading-refused, item-fit, item-misfit, item-refused}
 
 -- ---- pools that agree on the segments made
@@ -42,7 +42,7 @@ module _ (b a : List ℕ) (made : ℕ) (f : take (8 * made) a ≡ take (8 * made
   inner-keeps n link d Inner.One h =
       let l : made - 1 < made = omega arith in
       let s : segmentAt b (made - 1) ≡ segmentAt a (made - 1) = sym (segment-front a b made f (made - 1) l) in
-      (h .0, (back-front a b made f (made - 1) l ∙ h .1 .0, (subst (λ (x : LogSegment). size x + n ≡ made) s (h .1 .1 .0), subst (Low d) s (h .1 .1 .1))))
+      (h .0, (back-front a b made f (made - 1) l ∙ h .1 .0, (subst (λ (x : LogSegment). size x + n ≡ made) s (h .1 .1 .0), (subst (Low d) s (h .1 .1 .1 .0), λ o t. tidy-kept b a n made f (omega arith) (λ q. h .1 .1 .1 .1 q t) o))))
   inner-keeps n link d Inner.Several h = tt
 
 pub items-same : (b a : List ℕ) (c : Items) → take (8 * c .made) a ≡ take (8 * c .made) b → ItemsReady c → tellItems c a ≡ tellItems c b
@@ -81,7 +81,7 @@ unfolding InnerKeeps nextInner
 next-keeps Inner.Nothing lo to n m link d b a j k h g =
     let p : n + 1 ≤ k = omega (arith, g .more, h) in
     let q : size (segmentAt a (k - 1)) + n ≡ k = omega (arith, g .counted, h) in
-    (p, (g .linked, (q, g .low)))
+    (p, (g .linked, (q, (g .low, subst (λ (x : ℕ). StaysTidy x k link a) h (g .tidy)))))
 next-keeps Inner.One lo to n m link d b a j k h g = tt
 next-keeps Inner.Several lo to n m link d b a j k h g = tt
 

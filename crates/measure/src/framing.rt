@@ -5,6 +5,7 @@ use colour::Format;
 use colour::Scan;
 use colour::Settings;
 use colour::State;
+use prefix::RESET;
 use prefix::length::prefix_len;
 ghost use mathlib.Core.Path.{_≡_};
 ghost use mathlib.Core.List.{_++_};
@@ -43,7 +44,7 @@ pub fn closed(c: Measure, s: Settings, f: Format, n: usize, r: usize) -> Measure
     if prefix_len(s, k) == 0 {
         return e;
     }
-    sequence(e, 4, 1)
+    sequence(e, RESET.len(), 1)
 }
 
 // The measure of what a measures with n bytes more in prefixes.

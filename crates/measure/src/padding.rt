@@ -33,7 +33,7 @@ pub fn before_text(a: Alignment, n: usize) -> usize
 }
 
 // The measure of what a measures, then n bytes of padding.
-pub fn pad(a: Measure, z: Padding, n: usize) -> Measure
+pub(crate) fn pad(a: Measure, z: Padding, n: usize) -> Measure
     requires { ⌜ (Small a) × (a .len + n < 2 ^ 58) ⌝ }
     ensures { λ r. ⌜ r ≡ grown a (replicate n (padByte z)) ⌝ }
 {

@@ -24,7 +24,7 @@ use Rattle.fields.specs.Lines.{lineOf}
 use Rattle.packing.specs.declared.Answer.{Answer}
 use Rattle.answer.specs.Answers.{Outcome, line, refused, inRoom, passed, recordOutcome, answerOf, bufferAfter}
 use Rattle.outcomes.proofs.Refusals.{refusal-most}
-use Rattle.outcomes.specs.Program.{lineRoom, outcomeLine, refusalLine}
+use Rattle.outcomes.specs.Program.{lineRoom, outcomeLine, refusalLine, sessionText, fitting, sessionOutcome}
 
 -- ---- what an answer tells
 
@@ -173,3 +173,14 @@ answer-over out s h = ap answerOf (sym (not-held (length out) s h))
 pub buffer-over : (out s : List ℕ) → length out < length s → out ≡ bufferAfter out (inRoom (length out) s)
 unfolding bufferAfter
 buffer-over out s h = ap (bufferAfter out) (sym (not-held (length out) s h))
+
+-- ---- a session
+
+fitting-line : (room : ℕ) (o : Outcome) (x : List ℕ) → fitting room o ≡ line x → length x ≤ room
+unfolding fitting
+fitting-line room (line s) x e = was-held room s x e .0
+fitting-line room (refused r) x e = let z : _≡_ {A = ℕ} 0 1 = cc in absurd (omega (arith, z))
+
+pub session-fits : (d : List ℕ) (room : ℕ) (x : List ℕ) → sessionOutcome d room ≡ line x → length x ≤ room
+unfolding sessionOutcome
+session-fits d room x e = fitting-line room (sessionText d) x e

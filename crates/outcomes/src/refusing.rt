@@ -9,7 +9,7 @@ ghost use Rattle.buffer.specs.Buffer.{Puts};
 ghost use Rattle.outcomes.specs.Program.{refusalLine};
 
 // The length of the refusal's line.
-pub fn refusal_length(r: Refusal) -> usize
+pub(crate) fn refusal_length(r: Refusal) -> usize
     ensures { λ n. ⌜ (n ≡ length (refusalLine r)) × (n ≤ 5) ⌝ }
 {
     if number_of(r) < 10 { 4 } else { 5 }

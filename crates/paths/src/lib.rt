@@ -1,10 +1,10 @@
 // The components of a path, one after the other: what `{f}` is measured and written by.
 ghost use mathlib.Core.Path.{_≡_};
-ghost use Prim.Native.Nat.{_<_, _≤_};
+ghost use Prim.Native.Nat.{_+_, _-_, _<_, _≤_};
 ghost use lib.ListN.{length, getD, drop};
 ghost use Rattle.buffer.specs.Bytes.{byte, part};
-ghost use Rattle.paths.specs.Paths.{isDropped, components, lastOf};
-ghost use Rattle.paths.specs.Remaining.{remaining, beforeRest, componentsFrom, ComponentWithin};
+ghost use Rattle.paths.specs.Paths.{isDropped, components};
+ghost use Rattle.paths.specs.Remaining.{remaining, beforeRest, componentsFrom, ComponentWithin, endFrom, firstFrom, afterFrom, IsNext, IsFirstShown};
 
 // A component: the place of its first byte and the place after it.
 pub enum Component {
@@ -15,7 +15,7 @@ pub enum Component {
 // The first component of the last n of the path from `from` up to `to`. What `next_component` finds from its end on follows it.
 pub fn first_shown(d: &[u8], from: usize, to: usize, n: usize) -> Component
     requires { ⌜ (from ≤ to) × (to ≤ length (now d)) ⌝ }
-    ensures { λ r. ⌜ (componentsFrom r to (now (d .entry)) ≡ lastOf n (components (part from to (now (d .entry))))) × ComponentWithin from to r ⌝ }
+    ensures { λ r. ⌜ IsFirstShown n (now (d .entry)) from to r ⌝ }
 {
     let total = count_components(d, from, to);
     if total <= n {
@@ -28,6 +28,7 @@ pub fn first_shown(d: &[u8], from: usize, to: usize, n: usize) -> Component
 fn after_components(d: &[u8], from: usize, to: usize, skipped: usize) -> Component
     requires { ⌜ (from ≤ to) × (to ≤ length (now d)) ⌝ }
     ensures { λ r. ⌜ (componentsFrom r to (now (d .entry)) ≡ drop skipped (components (part from to (now (d .entry))))) × ComponentWithin from to r ⌝ }
+    ensures place { λ r. ⌜ r ≡ afterFrom skipped (firstFrom (to - from) (now (d .entry)) from) to (now (d .entry)) ⌝ }
 {
     let mut c = first_component(d, from, to);
     let mut left = skipped;
@@ -42,7 +43,7 @@ fn after_components(d: &[u8], from: usize, to: usize, skipped: usize) -> Compone
 }
 
 // How many components the path from `from` up to `to` has.
-pub fn count_components(d: &[u8], from: usize, to: usize) -> usize
+fn count_components(d: &[u8], from: usize, to: usize) -> usize
     requires { ⌜ (from ≤ to) × (to ≤ length (now d)) ⌝ }
     ensures { λ r. ⌜ r ≡ length (components (part from to (now (d .entry)))) ⌝ }
 {
@@ -58,9 +59,10 @@ pub fn count_components(d: &[u8], from: usize, to: usize) -> usize
 }
 
 // "A leading `/` is a component"; the path goes on after it.
-pub fn first_component(d: &[u8], from: usize, to: usize) -> Component
+fn first_component(d: &[u8], from: usize, to: usize) -> Component
     requires { ⌜ (from ≤ to) × (to ≤ length (now d)) ⌝ }
     ensures { λ r. ⌜ (components (part from to (now (d .entry))) ≡ componentsFrom r to (now (d .entry))) × ComponentWithin from to r ⌝ }
+    ensures place { λ r. ⌜ r ≡ firstFrom (to - from) (now (d .entry)) from ⌝ }
 {
     if from == to {
         return Component::Nothing;
@@ -74,7 +76,7 @@ pub fn first_component(d: &[u8], from: usize, to: usize) -> Component
 // The next component from the place `at` on, where the end of the one before it may stand.
 pub fn next_component(d: &[u8], at: usize, to: usize) -> Component
     requires { ⌜ (at ≤ to) × (to ≤ length (now d)) ⌝ }
-    ensures { λ r. ⌜ (remaining at to (now (d .entry)) ≡ componentsFrom r to (now (d .entry))) × ComponentWithin at to r ⌝ }
+    ensures { λ r. ⌜ IsNext (now (d .entry)) at to r ⌝ }
 {
     let mut i = at;
     while i < to {
@@ -106,6 +108,7 @@ fn is_dot(d: &[u8], from: usize, to: usize) -> bool
 fn end_of(d: &[u8], from: usize, to: usize) -> usize
     requires { ⌜ (from < to) × (to ≤ length (now d)) × (getD (now d) from 0 ≡ byte "/" → ⊥) ⌝ }
     ensures { λ r. ⌜ (from < r) × (r ≤ to) × (remaining from to (now (d .entry)) ≡ beforeRest (part from r (now (d .entry))) (remaining r to (now (d .entry)))) ⌝ }
+    ensures place { λ r. ⌜ r ≡ endFrom (to - (from + 1)) (now (d .entry)) (from + 1) ⌝ }
 {
     let mut i = from + 1;
     while i < to {

@@ -121,12 +121,15 @@ module _ (p q r : List ℕ) (n link : ℕ) (f : LogFormat) (d : FormatStored q r
         linked = ap (linkBelow n) (b .linked) ∙ link-kept n link h;
       }
 
+  pub added-last : (last : ℕ) → HeadStored p q n link 1 last 0 → last ≤ n → lastMember r n ≡ last
+  unfolding lastMember
+  added-last last x g = ap (linkBelow n) (begun-kept p q r n link 1 last 0 f x d .first) ∙ link-kept n last g
+
   pub added-group : (last : ℕ) → HeadStored p q n link 1 last 0 → last ≤ n → Adds p r n link (group (chainAt p last) f)
-  unfolding back lastMember
+  unfolding back
   added-group last x g =
       let b = begun-kept p q r n link 1 last 0 f x d in
-      let l : lastMember r n ≡ last = ap (linkBelow n) (b .first) ∙ link-kept n last g in
-      let s : chainAt r (lastMember r n) ≡ chainAt p last = ap (chainAt r) l ∙ chain-front r p n (b .front) last g in
+      let s : chainAt r (lastMember r n) ≡ chainAt p last = ap (chainAt r) (added-last last x g) ∙ chain-front r p n (b .front) last g in
       record {
         front = b .front;
         made = segment-group r n (kind-is r n last 1 Kind.Group (b .kind) (b .first) refl) ∙ (λ j. group (s j) (d .format j));

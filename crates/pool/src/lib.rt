@@ -32,6 +32,7 @@ pub fn put_specifier(cells: &mut [usize], n: usize, link: usize, m: LogMetadata,
 pub fn put_group(cells: &mut [usize], n: usize, link: usize, last: usize, f: LogFormat)
     requires { ⌜ (512 ≤ length (now cells)) × ((n < 64) × ((link ≤ n) × (last ≤ n))) ⌝ }
     ensures { λ _. ⌜ Adds (now (cells .entry)) (now (cells .exit)) n link (group (chainAt (now (cells .entry)) last) f) ⌝ }
+    ensures ends { λ _. ⌜ lastMember (now (cells .exit)) n ≡ last ⌝ }
 {
     begin(cells, n, link, 1, last, 0);
     dress(cells, n, f);

@@ -5,7 +5,7 @@ use outcomes::refusing::put_refusal;
 use refusals::Refusal;
 use session::Opened;
 use session::opening::open_sheet;
-use session::records::record_text;
+use session::records::put_record;
 use session::walking::first_record;
 use session::walking::next_record;
 ghost use Rattle.session.specs.Walking.{Ready, Lies};
@@ -45,7 +45,8 @@ fn write_records(d: &[u8], cells: &[usize], n: usize)
 fn write_record(d: &[u8], cells: &[usize], n: usize, i: usize, j: usize) -> bool
     requires { ⌜ Ready (now d) (now cells) n × Lies (now d) i j ⌝ }
 {
+    // the line buffer's 65,536 bytes and a newline
     let mut line = [0u8; 65537];
-    let k = record_text(d, cells, n, i, j, &mut line);
+    let k = put_record(d, cells, n, i, j, &mut line, 0);
     io::write_all(STDOUT_FILENO, &line[..k])
 }

@@ -8,25 +8,23 @@ use session::session;
 ghost use mathlib.Core.Path.{_≡_};
 ghost use lib.ListN.{length};
 ghost use Rattle.template.specs.Template.{readTemplate};
-ghost use Rattle.answer.specs.Answers.{inRoom, bufferAfter, packed, lineEntry};
+ghost use Rattle.answer.specs.Answers.{inRoom, Meets, lineEntry};
 ghost use Rattle.checking.specs.Templates.{checkOf, timestampOf};
-ghost use Rattle.outcomes.specs.Program.{output};
+ghost use Rattle.outcomes.specs.Program.{sessionEntry};
 ghost use Rattle.builtin.specs.Choices.{chosen};
 
 // The line of the record d by the template t.
 #[no_mangle]
 pub extern "C" fn pralakuon_line(t: &[u8], settings: u8, d: &[u8], out: &mut [u8]) -> u64
-    ensures answer { λ r. ⌜ r ≡ packed (lineEntry (now (t .entry)) settings (now (d .entry)) (now (out .entry))) ⌝ }
-    ensures buffer { λ r. ⌜ now (out .exit) ≡ bufferAfter (now (out .entry)) (lineEntry (now (t .entry)) settings (now (d .entry)) (now (out .entry))) ⌝ }
+    ensures { λ r. ⌜ Meets (lineEntry (now (t .entry)) settings (now (d .entry)) (now (out .entry))) (now (out .entry)) (now (out .exit)) r ⌝ }
 {
     pack(answer::line(t, settings, d, out))
 }
 
-// What the program writes for the sheet d.
+// The lines of all records of the sheet d.
 #[no_mangle]
 pub extern "C" fn pralakuon_session(d: &[u8], out: &mut [u8]) -> u64
-    ensures answer { λ r. ⌜ r ≡ packed (inRoom (length (now (out .entry))) (output (now (d .entry)))) ⌝ }
-    ensures buffer { λ r. ⌜ now (out .exit) ≡ bufferAfter (now (out .entry)) (inRoom (length (now (out .entry))) (output (now (d .entry)))) ⌝ }
+    ensures { λ r. ⌜ Meets (sessionEntry (now (d .entry)) (now (out .entry))) (now (out .entry)) (now (out .exit)) r ⌝ }
 {
     pack(session(d, out))
 }
@@ -56,8 +54,7 @@ pub extern "C" fn pralakuon_builtin(
     host: u8,
     out: &mut [u8],
 ) -> u64
-    ensures answer { λ r. ⌜ r ≡ packed (inRoom (length (now (out .entry))) (chosen style location timestamp host)) ⌝ }
-    ensures buffer { λ r. ⌜ now (out .exit) ≡ bufferAfter (now (out .entry)) (inRoom (length (now (out .entry))) (chosen style location timestamp host)) ⌝ }
+    ensures { λ r. ⌜ Meets (inRoom (length (now (out .entry))) (chosen style location timestamp host)) (now (out .entry)) (now (out .exit)) r ⌝ }
 {
     let room = out.len();
     let n = put_chosen(style, location, timestamp, host, out);

@@ -1,11 +1,14 @@
 // The length of the prefix that switches a look on.
+use super::RESET;
 use colour::Ink;
 use colour::Look;
 use colour::Settings;
 ghost use mathlib.Core.Path.{_≡_};
 ghost use mathlib.Core.Bool.{cond};
-ghost use Prim.Native.Nat.{_≤_};
+ghost use Prim.Native.Nat.{_+_, _≤_};
+ghost use lib.Dec.{eqb};
 ghost use lib.ListN.{length};
+ghost use Rattle.colour.specs.Sequences.{reset};
 ghost use Rattle.colour.specs.Looks.{inkCodes, following};
 ghost use Rattle.colour.specs.Formatting.{prefixIn};
 
@@ -26,6 +29,17 @@ pub fn prefix_len(s: Settings, k: Look) -> usize
         return 0;
     }
     n + 2
+}
+
+// The bytes of a prefix of p bytes and of the reset at the end, which is there where a prefix is.
+pub fn ends_len(p: usize) -> usize
+    requires { ⌜ p ≤ 15 ⌝ }
+    ensures { λ r. ⌜ r ≡ cond (eqb p 0) 0 (p + length reset) ⌝ }
+{
+    if p == 0 {
+        return 0;
+    }
+    p + RESET.len()
 }
 
 fn style_len(applies: bool) -> usize

@@ -11,6 +11,9 @@ ghost use Rattle.prefix.specs.Opening.{between, codesFrom, sequenceEnded
 
 pub mod length;
 
+// "the whole ends with the reset, bytes 27 91 48 109": what switches styles and a colour off again.
+pub const RESET: [u8; 4] = *b"\x1b[0m";
+
 // A code is a digit for a style and two for a colour.
 const STYLES: [u8; 5] = [b'1', b'2', b'4', b'3', b'9'];
 

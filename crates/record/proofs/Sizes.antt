@@ -7,10 +7,9 @@ use native.Mathlib.Omega.{arith}
 use lib.Dec.{eqb, leb}
 use lib.ListN.{length, getD}
 use borrow.Author.Tests.{leb-true, eqb-true, le-leb, lt-leb}
-use Rattle.buffer.specs.Bytes.{part}
 use Rattle.record.specs.declared.Places.{Places}
-use Rattle.record.specs.Layout.{littleEndian, u16, u32, Laid, texts, fileEnd, moduleEnd, timestampEnd, messageEnd, rightSize, laidOut}
-use Rattle.record.specs.Placed.{laidBy}
+use Rattle.record.specs.Layout.{littleEndian, u16, u32, texts, fileEnd, moduleEnd, timestampEnd, messageEnd, rightSize, laidOut}
+use Rattle.record.specs.Placed.{laidBy, placesIn}
 
 -- ---- numbers
 
@@ -60,15 +59,24 @@ pub record Found (d : List ℕ) (p : Places) : Type 0 where
   pub timestamp : (p .«timestamp_from» ≡ moduleEnd d) × (p .«timestamp_to» ≡ timestampEnd d)
   pub message : (p .«message_from» ≡ timestampEnd d) × (p .«message_to» ≡ messageEnd d)
 
-pub laid-found : (d : List ℕ) (p : Places) → Found d p → laidBy p d ≡ laidOut d
-unfolding laidBy laidOut
-laid-found d p f = λ i. record {
+pub places-found : (d : List ℕ) (p : Places) → Found d p → p ≡ placesIn d
+unfolding placesIn
+places-found d p f = λ i. record {
   source = f .source i;
   level = f .level i;
   mask = f .mask i;
   line = f .line i;
-  file = part (f .file .0 i) (f .file .1 i) d;
-  modulePath = part (f .modulePath .0 i) (f .modulePath .1 i) d;
-  timestamp = part (f .timestamp .0 i) (f .timestamp .1 i) d;
-  message = part (f .message .0 i) (f .message .1 i) d;
+  «file_from» = f .file .0 i;
+  «file_to» = f .file .1 i;
+  «module_from» = f .modulePath .0 i;
+  «module_to» = f .modulePath .1 i;
+  «timestamp_from» = f .timestamp .0 i;
+  «timestamp_to» = f .timestamp .1 i;
+  «message_from» = f .message .0 i;
+  «message_to» = f .message .1 i;
 }
+
+-- the record by these places is the one that is laid out
+pub laid-places : (d : List ℕ) (p : Places) → p ≡ placesIn d → laidBy p d ≡ laidOut d
+unfolding placesIn laidBy laidOut
+laid-places d p e = ap (λ (q : Places). laidBy q d) e

@@ -1,11 +1,11 @@
 -- What the numbers and texts of a record mean (document 01, "Session sheet and its program"). Assumes nothing.
 use Prim.Native.Nat.{ℕ, zero, suc, _/_, _%_}
 use mathlib.Core.Bool.{Bool, true, false}
-use mathlib.Core.List.{List, [], _∷_}
+use mathlib.Core.List.{List}
 use lib.Dec.{eqb}
 use Rattle.record.specs.declared.Source.{Source}
-use Rattle.record.specs.declared.Level.{Level}
-use Rattle.record.specs.Records.{Given, absent, given, Record, levels}
+use Rattle.record.specs.Levels.{levelOf}
+use Rattle.record.specs.Records.{Given, absent, given, Record}
 use Rattle.record.specs.Layout.{Laid}
 
 -- "presence mask (1 file, 2 line, 4 module)"
@@ -24,16 +24,6 @@ hasModule d = eqb (d .mask / 4 % 2) 1
 unfoldable pub sourceOf : ℕ → Source
 sourceOf zero = Source.Defmt
 sourceOf (suc n) = Source.Host
-
--- the level with number n
-unfoldable pub levelAt : List Level → ℕ → Level
-levelAt [] n = Level.Print
-levelAt (l ∷ rest) zero = l
-levelAt (l ∷ rest) (suc n) = levelAt rest n
-
--- "Level numbers 1 to 5 mean ERROR, WARN, INFO, DEBUG, TRACE"
-unfoldable pub levelOf : ℕ → Level
-levelOf n = levelAt levels n
 
 -- a text that is marked present, or an absent one
 unfoldable pub givenIf : Bool → List ℕ → Given

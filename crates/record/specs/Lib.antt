@@ -1,3 +1,4 @@
+pub mod Levels
 pub mod Records
 pub mod Layout
 pub mod Contents

@@ -1,9 +1,10 @@
 -- Scaffolding, for proofs alone: a record by places in its bytes, as the code has it. Assumes nothing.
 use Prim.Native.Nat.{ℕ, _≤_, _<_, _^_}
 use mathlib.Core.List.{List}
+use lib.ListN.{getD}
 use Rattle.buffer.specs.Bytes.{part}
 use Rattle.record.specs.declared.Places.{Places}
-use Rattle.record.specs.Layout.{Laid}
+use Rattle.record.specs.Layout.{u32, Laid, texts, fileEnd, moduleEnd, timestampEnd, messageEnd}
 
 -- each text lies within n bytes, and the line number is one of 32 bits
 pub record PlacesWithin (n : ℕ) (p : Places) : Type 0 where
@@ -24,4 +25,21 @@ laidBy p d = record {
   modulePath = part (p .«module_from») (p .«module_to») d;
   timestamp = part (p .«timestamp_from») (p .«timestamp_to») d;
   message = part (p .«message_from») (p .«message_to») d;
+}
+
+-- the places of a record that bytes lay out
+unfoldable pub placesIn : List ℕ → Places
+placesIn d = record {
+  source = getD d 0 0;
+  level = getD d 1 0;
+  mask = getD d 2 0;
+  line = u32 d 3;
+  «file_from» = texts;
+  «file_to» = fileEnd d;
+  «module_from» = fileEnd d;
+  «module_to» = moduleEnd d;
+  «timestamp_from» = moduleEnd d;
+  «timestamp_to» = timestampEnd d;
+  «message_from» = timestampEnd d;
+  «message_to» = messageEnd d;
 }

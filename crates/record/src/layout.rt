@@ -6,8 +6,8 @@ use super::numbers::u32_at;
 ghost use mathlib.Core.Path.{_≡_};
 ghost use mathlib.Core.Bool.{true};
 ghost use lib.ListN.{length};
-ghost use Rattle.record.specs.Layout.{rightSize, laidOut};
-ghost use Rattle.record.specs.Placed.{laidBy, PlacesWithin};
+ghost use Rattle.record.specs.Layout.{rightSize};
+ghost use Rattle.record.specs.Placed.{placesIn, PlacesWithin};
 
 // Whether the four lengths account for every byte after them.
 pub fn right_size(d: &[u8]) -> bool
@@ -19,10 +19,11 @@ pub fn right_size(d: &[u8]) -> bool
     15 + u16_at(d, 7) + u16_at(d, 9) + u16_at(d, 11) + u16_at(d, 13) == d.len()
 }
 
-// The places of a record of the right size.
+// The places of a record of the right size: by them it is the record that is laid out (`laid-places`).
 pub fn places_in(d: &[u8]) -> Places
     requires { ⌜ rightSize (now d) ≡ true ⌝ }
-    ensures { λ r. ⌜ (laidBy r (now (d .entry)) ≡ laidOut (now (d .entry))) × PlacesWithin (length (now (d .entry))) r ⌝ }
+    ensures { λ r. ⌜ r ≡ placesIn (now (d .entry)) ⌝ }
+    ensures within { λ r. ⌜ PlacesWithin (length (now (d .entry))) r ⌝ }
 {
     let file_to = 15 + u16_at(d, 7);
     let module_to = file_to + u16_at(d, 9);

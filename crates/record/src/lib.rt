@@ -1,4 +1,6 @@
-// A record: what a line is about, as it is laid out in bytes, and its checks.
+// A record: what a line is about, as it is laid out in bytes, and what its numbers mean.
+use words::Color;
+
 pub mod layout;
 pub mod levels;
 pub mod marks;
@@ -10,14 +12,20 @@ pub enum Source {
     Host,
 }
 
-// A record's level; a print has none.
-pub enum Level {
-    Print,
+// The name of a level.
+pub enum Name {
     Error,
     Warn,
     Info,
     Debug,
     Trace,
+}
+
+// What a level number means: a print without level, a level with its name and its colour, or nothing, so that the record is refused.
+pub enum Level {
+    Print,
+    Named(Name, Color),
+    Refused,
 }
 
 // A record as numbers: what its bytes say, and the places of its texts in them.

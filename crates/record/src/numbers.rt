@@ -5,7 +5,7 @@ ghost use lib.ListN.{length, getD};
 ghost use Rattle.record.specs.Layout.{u16, u32};
 
 // The byte at the place i.
-pub fn byte_at(d: &[u8], i: usize) -> usize
+pub(crate) fn byte_at(d: &[u8], i: usize) -> usize
     requires { ⌜ i < length (now d) ⌝ }
     ensures { λ r. ⌜ (r ≡ getD (now (d .entry)) i 0) × (r < 256) ⌝ }
 {

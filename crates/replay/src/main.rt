@@ -1,9 +1,16 @@
 // Runs the stored list of the crate's answers through the library, and prints how many cases were run and how many parted.
 use libc::STDIN_FILENO;
 use libc::STDOUT_FILENO;
+use outcomes::refusing::put_refusal;
 use packing::Answer;
-ghost use Prim.Native.Nat.{_+_, _<_, _≤_};
+use refusals::Refusal;
+use refusals::number_of;
+ghost use mathlib.Core.Path.{_≡_};
+ghost use Prim.Native.Nat.{_<_, _≤_};
 ghost use lib.ListN.{length};
+ghost use Rattle.buffer.specs.Bytes.{same};
+ghost use Rattle.outcomes.specs.Program.{sessionOutcome};
+ghost use Rattle.replay.specs.Cases.{lentRoom, saidLines, saidRefusal, saidOutcome, judged, tallyWith};
 
 // What became of a case.
 enum Verdict {
@@ -65,7 +72,7 @@ fn is_end(v: Verdict) -> bool {
 
 fn tallied(t: Tally, v: Verdict) -> Tally
     requires { ⌜ (t .run < 1000000) × ((t .parted < 1000000) × (t .skipped < 1000000)) ⌝ }
-    ensures { λ r. ⌜ (r .run ≤ t .run + 1) × ((r .parted ≤ t .parted + 1) × (r .skipped ≤ t .skipped + 1)) ⌝ }
+    ensures { λ r. ⌜ r ≡ tallyWith t v ⌝ }
 {
     match v {
         Verdict::Same => Tally {
@@ -150,37 +157,63 @@ fn read_into(buf: &mut [u8]) -> usize
     0
 }
 
-// N 0: the same bytes; 255: a listed difference; else the refusal N.
-fn judge(n: u8, sheet: &[u8], output: &[u8]) -> Verdict {
-    if n == 0 {
-        return compare(sheet, output);
-    }
+// The verdict on a case. N 255 is a listed difference.
+fn judge(n: u8, sheet: &[u8], output: &[u8]) -> Verdict
+    ensures { λ r. ⌜ r ≡ judged n (now (sheet .entry)) (now (output .entry)) ⌝ }
+{
     if n == 255 {
         return Verdict::Skipped;
     }
-    if n < 10 {
-        let line = [b'!', b' ', b'0' + n, b'\n'];
-        return compare(sheet, &line);
+    if answers_so(n, sheet, output) {
+        return Verdict::Same;
     }
-    let line = [b'!', b' ', b'0' + n / 10 % 10, b'0' + n % 10, b'\n'];
-    compare(sheet, &line)
+    Verdict::Parted
 }
 
-fn compare(sheet: &[u8], output: &[u8]) -> Verdict {
+// Whether a session call answers what the case says.
+fn answers_so(n: u8, sheet: &[u8], output: &[u8]) -> bool
+    ensures { λ r. ⌜ r ≡ saidOutcome n (now (output .entry)) (sessionOutcome (now (sheet .entry)) lentRoom) ⌝ }
+{
     // twice what the list holds, so that too long an output is seen
     let mut written = [0u8; 131072];
     let a = session::session(sheet, &mut written);
     match a {
-        Answer::Line(n) => same_front(&written, n, output),
-        Answer::Refused(_) => Verdict::Parted,
+        Answer::Line(k) => lines_so(n, &written[..k], output),
+        Answer::Refused(r) => refused_so(n, r, output),
     }
 }
 
-fn same_front(written: &[u8], n: usize, output: &[u8]) -> Verdict {
-    if n <= written.len() {
-        if check::same(&written[..n], output) {
-            return Verdict::Same;
-        }
+// Whether lines are what it says. N 0: the list's own output; 11 to 14: the refusal of a record; any other N refuses the whole sheet.
+fn lines_so(n: u8, lines: &[u8], output: &[u8]) -> bool
+    ensures { λ r. ⌜ r ≡ saidLines n (now (output .entry)) (now (lines .entry)) ⌝ }
+{
+    if n == 0 {
+        return same_bytes(lines, output);
     }
-    Verdict::Parted
+    if n < 11 {
+        return false;
+    }
+    if 14 < n {
+        return false;
+    }
+    let line = [b'!', b' ', b'1', b'0' + (n - 10), b'\n'];
+    same_bytes(lines, &line)
+}
+
+// Whether a refusal of the whole sheet is: by its number, or with N 0 by the line that the program writes for it.
+fn refused_so(n: u8, r: Refusal, output: &[u8]) -> bool
+    ensures { λ a. ⌜ a ≡ saidRefusal n (now (output .entry)) r ⌝ }
+{
+    if n == 0 {
+        let mut line = [0u8; 5];
+        let k = put_refusal(r, &mut line, 0);
+        return same_bytes(&line[..k], output);
+    }
+    number_of(r) == n
+}
+
+fn same_bytes(x: &[u8], y: &[u8]) -> bool
+    ensures { λ r. ⌜ r ≡ same (now (x .entry)) (now (y .entry)) ⌝ }
+{
+    check::same(x, y)
 }

@@ -31,13 +31,13 @@ module _ (cells : List ℕ) (i : ℕ) (k : Kind) (ke : k ≡ kindAt cells i) whe
   pub text-format : (q : Source) (l : Level) (g : Format) → k ≡ Kind.Text → isBare q (segmentAt cells i) ≡ false → g ≡ formatOf l (segmentAt cells i)
   text-format q l g e b = let z : true ≡ false = text-is-bare q e ∙ b in cc
 
-  pub group-format : (l r : Level) (f : LogFormat) (g : Format) → k ≡ Kind.Group → r ≡ l → f ≡ formatAt cells i → g ≡ groupFormat r f → g ≡ formatOf l (segmentAt cells i)
+  pub group-format : (l : Level) (f : LogFormat) (g : Format) → k ≡ Kind.Group → f ≡ formatAt cells i → g ≡ groupFormat l f → g ≡ formatOf l (segmentAt cells i)
   unfolding formatOf
-  group-format l r f g e re fe ge =
-      ge ∙ ap (λ (x : Level). groupFormat x f) re ∙ ap (groupFormat l) fe ∙ sym (ap (formatOf l) (segment-group cells i (sym ke ∙ e)))
+  group-format l f g e fe ge =
+      ge ∙ ap (groupFormat l) fe ∙ sym (ap (formatOf l) (segment-group cells i (sym ke ∙ e)))
 
-  pub specifier-format : (l r : Level) (m : LogMetadata) (f : LogFormat) (g : Format) → k ≡ Kind.Specifier m → r ≡ l → f ≡ formatAt cells i → g ≡ specifierFormat r m f
+  pub specifier-format : (l : Level) (m : LogMetadata) (f : LogFormat) (g : Format) → k ≡ Kind.Specifier m → f ≡ formatAt cells i → g ≡ specifierFormat l m f
       → g ≡ formatOf l (segmentAt cells i)
   unfolding formatOf
-  specifier-format l r m f g e re fe ge =
-      ge ∙ ap (λ (x : Level). specifierFormat x m f) re ∙ ap (specifierFormat l m) fe ∙ sym (ap (formatOf l) (segment-specifier cells i m (sym ke ∙ e)))
+  specifier-format l m f g e fe ge =
+      ge ∙ ap (specifierFormat l m) fe ∙ sym (ap (formatOf l) (segment-specifier cells i m (sym ke ∙ e)))

@@ -1,3 +1,4 @@
+pub mod Depths
 pub mod Formats
 pub mod Framing
 pub mod Lengths

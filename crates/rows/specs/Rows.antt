@@ -9,7 +9,7 @@ use Rattle.colour.specs.declared.Settings.{Settings}
 use Rattle.colour.specs.declared.Format.{Format}
 use Rattle.colour.specs.Formatting.{prefixIn, padded, inserted, before}
 use Rattle.segments.specs.Segments.{LogSegment}
-use Rattle.segments.specs.Pool.{back, segmentAt, chainAt, Sound}
+use Rattle.segments.specs.Pool.{back, segmentAt, chainAt, Sound, Tidy}
 use Rattle.segments.specs.Sizes.{sizes, Lows}
 use Rattle.record.specs.Records.{Record}
 use Rattle.record.specs.Placed.{laidBy}
@@ -73,6 +73,7 @@ pub record Countable (s : Settings) (t : List ℕ) (r : Record) (cells : List �
 pub record Writable (cells t d numbers : List ℕ) (n : ℕ) : Type 0 where
   pub readable : Readable cells d numbers n
   pub sound : Sound cells n
+  pub tidy : Tidy cells n
   pub few : sizes (chainAt cells n) ≤ 64
   pub low : Lows 8 (chainAt cells n)
   pub template : length t ≤ 1024

@@ -18,23 +18,23 @@ use members::member_after;
 use pool::back_at;
 use pool::kind_at;
 use pool::last_at;
+use prefix::length::ends_len;
 use prefix::length::prefix_len;
 use segment::format_of;
 use segment::frame_at;
 use segment::is_bare;
 use segments::Kind;
 ghost use mathlib.Core.Path.{_≡_};
-ghost use mathlib.Core.Bool.{cond};
 ghost use Prim.Native.Nat.{_+_, _*_, _<_, _≤_, _^_};
-ghost use lib.Dec.{eqb};
 ghost use lib.ListN.{length};
 ghost use Rattle.measure.specs.Measures.{grown, Small};
-ghost use Rattle.segments.specs.Pool.{segmentAt, chainAt};
+ghost use Rattle.segments.specs.Sizes.{Low, Lows};
+ghost use Rattle.segments.specs.Pool.{segmentAt, chainAt, Sound};
 ghost use Rattle.leaves.specs.Places.{recordBy, Readable};
+ghost use Rattle.members.specs.Links.{Forward};
 ghost use Rattle.rows.specs.Texts.{recordSegment, recordSegments, recordRaw};
 ghost use Rattle.rows.specs.Rows.{bareRow, rowOf, lengthsBack, Tabled, Countable};
 
-pub mod members;
 pub mod segment;
 
 // What is known of a segment before it is written: the padding that it gets, the bytes inserted into it, and how long it is in all.
@@ -52,26 +52,42 @@ pub struct Frame {
     pub inserted: usize,
 }
 
-// The text of the segment at i on top of a measure, before it is formatted.
+// The text of the segment at i on top of a measure, before it is formatted. Groups stand `depth` deep there at most, and a group's members are
+// gone into with one less: the three functions call each other in a cycle that ends because the depth falls.
 fn raw_of(
     cells: &[usize],
+    links: &[u8],
     table: &[usize],
     t: &[u8],
     d: &[u8],
     numbers: &[usize],
     s: Settings,
+    depth: usize,
     i: usize,
     a: Measure,
 ) -> Measure
     requires { ⌜ Readable (now cells) (now d) (now numbers) (i + 1) ⌝ }
     requires { ⌜ Tabled s (now t) (recordBy (now numbers) (now d)) (now cells) (now table) i ⌝ }
     requires { ⌜ (Small a) × (a .len + length (recordRaw s (now t) (now numbers) (now d) (segmentAt (now cells) i)) < 2 ^ 57) ⌝ }
+    requires { ⌜ Low depth (segmentAt (now cells) i) ⌝ }
+    requires { ⌜ Forward (now cells) (now links) i ⌝ }
     ensures { λ r. ⌜ r ≡ grown a (recordRaw s (now (t .entry)) (now (numbers .entry)) (now (d .entry)) (segmentAt (now (cells .entry)) i)) ⌝ }
 {
     let kind = kind_at(cells, i);
     match kind {
         Kind::Text => add_text(cells, t, i, a),
-        Kind::Group => join_of(cells, table, t, d, numbers, s, last_at(cells, i), a),
+        Kind::Group => join_of(
+            cells,
+            links,
+            table,
+            t,
+            d,
+            numbers,
+            s,
+            depth - 1,
+            last_at(cells, i),
+            a,
+        ),
         Kind::Specifier(m) => add_field(d, numbers, m, a),
     }
 }
@@ -79,24 +95,28 @@ fn raw_of(
 // The members back from the link `l`, one after the other in a loop: so the stack grows with groups inside groups, and not with members.
 fn join_of(
     cells: &[usize],
+    links: &[u8],
     table: &[usize],
     t: &[u8],
     d: &[u8],
     numbers: &[usize],
     s: Settings,
+    depth: usize,
     l: usize,
     a: Measure,
 ) -> Measure
     requires { ⌜ Readable (now cells) (now d) (now numbers) l ⌝ }
     requires { ⌜ Tabled s (now t) (recordBy (now numbers) (now d)) (now cells) (now table) l ⌝ }
     requires { ⌜ (Small a) × (a .len + length (recordSegments s (now t) (now numbers) (now d) (chainAt (now cells) l)) < 2 ^ 57) ⌝ }
+    requires { ⌜ Lows depth (chainAt (now cells) l) ⌝ }
+    requires { ⌜ Forward (now cells) (now links) l ⌝ }
     ensures { λ r. ⌜ r ≡ grown a (recordSegments s (now (t .entry)) (now (numbers .entry)) (now (d .entry)) (chainAt (now (cells .entry)) l)) ⌝ }
 {
     let mut b = a;
     let mut j = 0;
     while j < l {
-        j = member_after(cells, l, j);
-        b = seg_of(cells, table, t, d, numbers, s, j - 1, b);
+        j = member_after(links, l, j);
+        b = seg_of(cells, links, table, t, d, numbers, s, depth, j - 1, b);
     }
     b
 }
@@ -104,26 +124,30 @@ fn join_of(
 // The segment at i, formatted.
 fn seg_of(
     cells: &[usize],
+    links: &[u8],
     table: &[usize],
     t: &[u8],
     d: &[u8],
     numbers: &[usize],
     s: Settings,
+    depth: usize,
     i: usize,
     a: Measure,
 ) -> Measure
     requires { ⌜ Readable (now cells) (now d) (now numbers) (i + 1) ⌝ }
     requires { ⌜ Tabled s (now t) (recordBy (now numbers) (now d)) (now cells) (now table) (i + 1) ⌝ }
     requires { ⌜ (Small a) × (a .len + length (recordSegment s (now t) (now numbers) (now d) (segmentAt (now cells) i)) < 2 ^ 57) ⌝ }
+    requires { ⌜ Low depth (segmentAt (now cells) i) ⌝ }
+    requires { ⌜ Forward (now cells) (now links) (i + 1) ⌝ }
     ensures { λ r. ⌜ r ≡ grown a (recordSegment s (now (t .entry)) (now (numbers .entry)) (now (d .entry)) (segmentAt (now (cells .entry)) i)) ⌝ }
 {
     if is_bare(cells, numbers, i) {
-        return raw_of(cells, table, t, d, numbers, s, i, a);
+        return raw_of(cells, links, table, t, d, numbers, s, depth, i, a);
     }
     let w = frame_at(cells, table, numbers, i);
     let f = w.format;
     let b = opened(a, s, f, w.left);
-    let c = raw_of(cells, table, t, d, numbers, s, i, b);
+    let c = raw_of(cells, links, table, t, d, numbers, s, depth, i, b);
     closed(c, s, f, w.inserted, w.right)
 }
 
@@ -177,20 +201,10 @@ fn bare_row(n: usize) -> Row
     }
 }
 
-// The bytes of a prefix of p bytes and of the reset at the end, which is there where a prefix is.
-fn ends_len(p: usize) -> usize
-    requires { ⌜ p ≤ 15 ⌝ }
-    ensures { λ r. ⌜ r ≡ cond (eqb p 0) 0 (p + 4) ⌝ }
-{
-    if p == 0 {
-        return 0;
-    }
-    p + 4
-}
-
 // The row of the segment at i, where those before it stand in the table.
 fn row_for(
     cells: &[usize],
+    links: &[u8],
     table: &[usize],
     t: &[u8],
     d: &[u8],
@@ -201,6 +215,8 @@ fn row_for(
     requires { ⌜ Readable (now cells) (now d) (now numbers) (i + 1) ⌝ }
     requires { ⌜ Tabled s (now t) (recordBy (now numbers) (now d)) (now cells) (now table) i ⌝ }
     requires { ⌜ length (recordSegment s (now t) (now numbers) (now d) (segmentAt (now cells) i)) < 2 ^ 57 ⌝ }
+    requires { ⌜ Low 8 (segmentAt (now cells) i) ⌝ }
+    requires { ⌜ Forward (now cells) (now links) i ⌝ }
     ensures { λ r. ⌜ r ≡ rowOf s (now (t .entry)) (recordBy (now (numbers .entry)) (now (d .entry))) (segmentAt (now (cells .entry)) i) ⌝ }
 {
     if is_bare(cells, numbers, i) {
@@ -215,7 +231,7 @@ fn row_for(
             return bare_row(raw_len(cells, table, t, d, numbers, s, i));
         }
     }
-    let x = raw_of(cells, table, t, d, numbers, s, i, none());
+    let x = raw_of(cells, links, table, t, d, numbers, s, 8, i, none());
     let n = inserted_in(s, f, x);
     let z = padding_in(s, f, x, n);
     Row {
@@ -228,6 +244,7 @@ fn row_for(
 // The rows of the segments below n.
 pub fn rows(
     cells: &[usize],
+    links: &[u8],
     t: &[u8],
     d: &[u8],
     numbers: &[usize],
@@ -237,11 +254,12 @@ pub fn rows(
 )
     requires { ⌜ Readable (now cells) (now d) (now numbers) n ⌝ }
     requires { ⌜ (3 * n ≤ length (now table)) × Countable s (now t) (recordBy (now numbers) (now d)) (now cells) n ⌝ }
+    requires { ⌜ Sound (now cells) n × Forward (now cells) (now links) n ⌝ }
     ensures { λ _. ⌜ Tabled s (now (t .entry)) (recordBy (now (numbers .entry)) (now (d .entry))) (now (cells .entry)) (now (table .exit)) n ⌝ }
 {
     let mut i = 0;
     while i < n {
-        let r = row_for(cells, table, t, d, numbers, s, i);
+        let r = row_for(cells, links, table, t, d, numbers, s, i);
         table[3 * i] = r.padding;
         table[3 * i + 1] = r.inserted;
         table[3 * i + 2] = r.len;

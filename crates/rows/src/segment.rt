@@ -8,7 +8,6 @@ use measure::padding::before_text;
 use pool::format_at;
 use pool::kind_at;
 use record::Source;
-use record::levels::level_of;
 use record::levels::source_of;
 use segments::Kind;
 use words::LogMetadata;
@@ -49,14 +48,14 @@ fn is_bare_from(source: Source, m: LogMetadata) -> bool
 }
 
 // The format of the segment at i.
-pub fn format_of(cells: &[usize], numbers: &[usize], i: usize) -> Format
+pub(crate) fn format_of(cells: &[usize], numbers: &[usize], i: usize) -> Format
     requires { ⌜ (512 ≤ length (now cells)) × ((i < 64) × (12 ≤ length (now numbers))) ⌝ }
     requires { ⌜ isBare (sourceBy (now numbers)) (segmentAt (now cells) i) ≡ false ⌝ }
     ensures { λ r. ⌜ r ≡ formatOf (levelBy (now (numbers .entry))) (segmentAt (now (cells .entry)) i) ⌝ }
 {
     let kind = kind_at(cells, i);
     let format = format_at(cells, i);
-    let level = level_of(numbers[1]);
+    let level = numbers[1];
     match kind {
         Kind::Text => group_format(level, format),
         Kind::Group => group_format(level, format),

@@ -17,7 +17,7 @@ pub fn stands_at(b: u8, t: &[u8], i: usize, e: usize) -> bool
     false
 }
 
-pub fn is_letter(b: u8) -> bool
+fn is_letter(b: u8) -> bool
     ensures { λ r. ⌜ r ≡ letter b ⌝ }
 {
     if b < b'A' {
@@ -32,7 +32,7 @@ pub fn is_letter(b: u8) -> bool
     b <= b'z'
 }
 
-pub fn is_digit(b: u8) -> bool
+fn is_digit(b: u8) -> bool
     ensures { λ r. ⌜ r ≡ digit b ⌝ }
 {
     if b < b'0' {

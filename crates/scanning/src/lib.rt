@@ -13,7 +13,7 @@ ghost use Rattle.colour.specs.Machine.{actAmong, actOf, moved};
 pub mod skipping;
 
 // What the byte b does in the state q.
-pub fn act_of(q: State, b: u8) -> Act
+pub(crate) fn act_of(q: State, b: u8) -> Act
     ensures { λ r. ⌜ r ≡ actOf q b ⌝ }
 {
     if b == 27 {

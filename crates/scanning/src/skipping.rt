@@ -5,13 +5,12 @@ use buffer::numbers::least;
 use colour::Scan;
 use colour::State;
 ghost use mathlib.Core.Path.{_≡_};
-ghost use mathlib.Core.Bool.{true};
 ghost use Prim.Native.Nat.{_+_, _<_, _≤_, _^_};
 ghost use lib.ListN.{length};
-ghost use Rattle.colour.specs.declared.State.the-variants.{Outside};
 ghost use Rattle.colour.specs.Machine.{scan};
 ghost use Rattle.colour.specs.Sequences.{esc};
 ghost use Rattle.colour.specs.Texts.{Free};
+ghost use Rattle.scanning.specs.Resting.{isResting};
 
 // The search after the text s.
 pub fn scan_text(t: Scan, s: &[u8]) -> Scan
@@ -67,9 +66,9 @@ fn scan_bytes(t: Scan, s: &[u8]) -> Scan
     u
 }
 
-// Whether no sequence has begun. No more is promised of `false`: then the search goes byte by byte.
+// Whether no sequence has begun: else the search goes byte by byte.
 pub fn rests(t: Scan) -> bool
-    ensures { λ r. ⌜ (r ≡ true → (t .state ≡ Outside) × (t .held ≡ 0)) ⌝ }
+    ensures { λ r. ⌜ r ≡ isResting (t .state) (t .held) ⌝ }
 {
     let q = t.state;
     match q {

@@ -1,4 +1,5 @@
+pub mod Coding
+pub mod Computing
+pub mod Pool
 pub mod Segments
 pub mod Sizes
-pub mod Pool
-pub mod Computing

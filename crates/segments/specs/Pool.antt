@@ -178,3 +178,8 @@ pub record Adds (before after : List ℕ) (n link : ℕ) (x : LogSegment) : Type
 pub record Sound (cells : List ℕ) (n : ℕ) : Type 0 where
   pub few : (i : ℕ) → i < n → size (segmentAt cells i) ≤ 64
   pub low : (i : ℕ) → i < n → Low 8 (segmentAt cells i)
+
+-- n segments in the order that they are made in: a member begins right after the one before it, and a group that holds others stands right after the last of them
+pub record Tidy (cells : List ℕ) (n : ℕ) : Type 0 where
+  pub begins : (i : ℕ) → i < n → 0 < back cells i → back cells i + size (segmentAt cells i) ≡ i + 1
+  pub ends : (i : ℕ) → i < n → 1 < size (segmentAt cells i) → lastMember cells i ≡ i

@@ -10,6 +10,7 @@ ghost use mathlib.Core.Path.{_≡_};
 ghost use Prim.Native.Nat.{_≤_};
 ghost use Rattle.segments.specs.declared.Kind.{Kind};
 ghost use Rattle.segments.specs.Pool.{flagOf, entry, kinds, foregroundNumber, colourNumber, storedStyles, storedWidth, storedAlignment, storedPadding};
+ghost use Rattle.segments.specs.Coding.{metadataNumber, stylesNumber, widthNumber, fillNumber};
 
 // A specifier's number, and the count that only `f` has.
 pub struct Coded {
@@ -18,7 +19,8 @@ pub struct Coded {
 }
 
 pub fn metadata_number(m: LogMetadata) -> Coded
-    ensures { λ r. ⌜ entry Kind.Text (kinds (r .count)) (r .number) ≡ Kind.Specifier m ⌝ }
+    ensures { λ r. ⌜ r ≡ metadataNumber m ⌝ }
+    ensures back { λ r. ⌜ entry Kind.Text (kinds (r .count)) (r .number) ≡ Kind.Specifier m ⌝ }
 {
     match m {
         LogMetadata::CrateName => Coded {
@@ -85,7 +87,8 @@ fn foreground_number(k: Color) -> usize
 }
 
 pub fn styles_number(s: Styles) -> usize
-    ensures { λ r. ⌜ (storedStyles r ≡ s) × (r ≤ 31) ⌝ }
+    ensures { λ r. ⌜ r ≡ stylesNumber s ⌝ }
+    ensures back { λ r. ⌜ (storedStyles r ≡ s) × (r ≤ 31) ⌝ }
 {
     let heavy = flag(s.bold) + 2 * flag(s.dimmed);
     let lines = flag(s.underline) + 2 * flag(s.italic) + 4 * flag(s.strike);
@@ -99,7 +102,8 @@ fn flag(b: bool) -> usize
 }
 
 pub fn width_number(w: Width) -> usize
-    ensures { λ r. ⌜ storedWidth r ≡ w ⌝ }
+    ensures { λ r. ⌜ r ≡ widthNumber w ⌝ }
+    ensures back { λ r. ⌜ storedWidth r ≡ w ⌝ }
 {
     match w {
         Width::Default => 0,
@@ -108,7 +112,7 @@ pub fn width_number(w: Width) -> usize
 }
 
 pub fn fill_number(a: Alignment, p: Padding) -> usize
-    ensures { λ r. ⌜ (storedAlignment r ≡ a) × (storedPadding r ≡ p) ⌝ }
+    ensures { λ r. ⌜ (r ≡ fillNumber a p) × (storedAlignment r ≡ a) × (storedPadding r ≡ p) ⌝ }
 {
     match p {
         Padding::Space => match a {

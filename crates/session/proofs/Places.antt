@@ -1,4 +1,4 @@
--- The walk along a sheet's records, and the output as their lines. Assumes nothing.
+-- The walk along a sheet's records, and a session as their lines. Assumes nothing.
 use mathlib.Core.Path.{_≡_, refl, ap, sym, subst, _∙_}
 use mathlib.Core.Bool.{Bool, true, false}
 use mathlib.Core.List.{List, [], _++_}
@@ -10,6 +10,7 @@ use Rattle.buffer.proofs.Writing.{put-put}
 use Rattle.buffer.specs.Bytes.{part}
 use Rattle.buffer.specs.Table.{some}
 use Rattle.refusals.specs.declared.Refusal.{Refusal}
+use Rattle.refusals.specs.Numbers.{lengthWith}
 use Rattle.segments.specs.Segments.{LogSegments}
 use Rattle.template.specs.Template.{read, refusal, readTemplate}
 use Rattle.record.specs.Layout.{u32, rightSize, laidOut}
@@ -23,11 +24,12 @@ use Rattle.template.specs.Parsing.{tellParsed, ReadKeeps, ParsedKeeps}
 use Rattle.segments.specs.Pool.{chainAt}
 use Rattle.session.specs.declared.Opened.{Opened}
 use Rattle.session.specs.declared.walking.Walk.{Walk}
-use Rattle.answer.specs.Answers.{recordOutcome}
+use Rattle.answer.specs.Answers.{line, refused, inRoom, recordOutcome}
 use Rattle.settings.specs.Bits.{settingsOf}
 use Rattle.outcomes.proofs.Answered.{outcome-most}
 use Rattle.answer.proofs.Answering.{read-short}
-use Rattle.outcomes.specs.Program.{lineRoom, outcomeLine, recordLines, sheetLines, maybeSheetLines, refusalLine, output}
+use Rattle.template.proofs.Refusing.{template-refuses, unsized}
+use Rattle.outcomes.specs.Program.{lineRoom, outcomeLine, recordLines, sheetText, maybeSheetText, sessionText, fitting, sessionOutcome, refusalLine, asOutput, output}
 use Rattle.session.specs.Walking.{openedBy, opening, tellOpened, OpenedKeeps, templateIn, recordsFrom, Ready, Lies, walkFrom, walkOn, Standing, outcomeAt, lineAt, linesFrom, linesLeft, allLines}
 
 -- ---- a sheet that is one
@@ -131,7 +133,7 @@ pub lines-end : (d : List ℕ) (s : LogSegments) (w : Walk) → w .left ≡ 0 �
 unfolding linesFrom
 lines-end d s w e = ap (λ (n : ℕ). linesFrom n d s (w .i) (w .j)) e
 
--- ---- the output
+-- ---- the text of a session
 
 -- what the sheet holds
 abbrev sheetIn : List ℕ → Sheet
@@ -158,22 +160,22 @@ unfolding recordLines allLaidOut bodiesFrom linesFrom lineAt outcomeAt
 lines-are d s zero i j = refl
 lines-are d s (suc m) i j = ap (λ (l : List ℕ). lineAt d s i j ++ l) (lines-are d s m (i + 4) (j + u32 d i))
 
-pub output-lines : (d : List ℕ) (s : LogSegments) → isSheet d ≡ true → opening d ≡ read s → output d ≡ allLines d s
-unfolding output maybeSheetLines sheetLines allLines
-output-lines d s e r =
-    ap maybeSheetLines (sheet-in d e)
-    ∙ ap (sheetLines (sheetIn d)) (sym (opening-some d e) ∙ r)
-    ∙ lines-are d s (bodyCount d - 1) 6 (recordsFrom d)
+pub text-lines : (d : List ℕ) (s : LogSegments) → isSheet d ≡ true → opening d ≡ read s → sessionText d ≡ line (allLines d s)
+unfolding sessionText maybeSheetText sheetText allLines
+text-lines d s e r =
+    ap maybeSheetText (sheet-in d e)
+    ∙ ap (sheetText (sheetIn d)) (sym (opening-some d e) ∙ r)
+    ∙ ap line (lines-are d s (bodyCount d - 1) 6 (recordsFrom d))
 
-refused-sheet : (d : List ℕ) (r : Refusal) (b : Bool) → isSheet d ≡ b → opening d ≡ refusal r → output d ≡ refusalLine r
-unfolding output maybeSheetLines sheetLines
-refused-sheet d r true e o = ap maybeSheetLines (sheet-in d e) ∙ ap (sheetLines (sheetIn d)) (sym (opening-some d e) ∙ o)
-refused-sheet d r false e o =
+-- a refusal of the whole sheet tells no length
+text-refused : (d : List ℕ) (r : Refusal) (b : Bool) → isSheet d ≡ b → opening d ≡ refusal r → (sessionText d ≡ refused r) × (lengthWith r ≡ 0)
+unfolding sessionText maybeSheetText sheetText
+text-refused d r true e o =
+    let t = sym (opening-some d e) ∙ o in
+    (ap maybeSheetText (sheet-in d e) ∙ ap (sheetText (sheetIn d)) t, unsized r (template-refuses (templateIn d) r t))
+text-refused d r false e o =
     let f : Refusal.NotASheet ≡ r = cc (opening-none d e) in
-    ap maybeSheetLines (sheet-none d e) ∙ ap refusalLine f
-
-pub output-refused : (d : List ℕ) (r : Refusal) → opening d ≡ refusal r → output d ≡ refusalLine r
-output-refused d r o = refused-sheet d r (isSheet d) refl o
+    (ap maybeSheetText (sheet-none d e) ∙ ap refused f, ap lengthWith (sym f))
 
 -- ---- the bodies, as the code has them
 
@@ -208,16 +210,30 @@ line-most d s i j = outcome-most (settingsOf (getD d (contentsEnd d) 0)) (templa
 pub put-then : (d d′ : List ℕ) (at to : ℕ) (s t : List ℕ) → d′ ≡ putAt d at s → to ≡ at + length s → at + (length s + length t) ≤ length d → putAt d′ to t ≡ putAt d at (s ++ t)
 put-then d d′ at to s t e n h = ap (λ (x : List ℕ). putAt x to t) e ∙ put-put d at to s t n h
 
--- ---- the whole output, by what opening the sheet answers
+-- ---- the whole session, by what opening the sheet answers
 
-pub whole-read : (d cells : List ℕ) (r : Opened) (n : ℕ) → r ≡ Opened.Open n → tellOpened r cells ≡ opening d → OpenedKeeps d cells r
-    → Ready d cells n × (output d ≡ allLines d (chainAt cells n))
-unfolding tellOpened
-whole-read d cells r n e told keeps =
-    let k : Ready d cells n = subst (λ (x : Opened). OpenedKeeps d cells x) e keeps in
-    let o : opening d ≡ read (chainAt cells n) = sym told ∙ ap (λ (x : Opened). tellOpened x cells) e in
-    (k, output-lines d (chainAt cells n) (k .sheet) o)
+module _ (d cells : List ℕ) (r : Opened) where
+  pub ready : (n : ℕ) → r ≡ Opened.Open n → OpenedKeeps d cells r → Ready d cells n
+  ready n e keeps = subst (λ (x : Opened). OpenedKeeps d cells x) e keeps
 
-pub whole-refused : (d cells : List ℕ) (r : Opened) (q : Refusal) → r ≡ Opened.Refused q → tellOpened r cells ≡ opening d → output d ≡ refusalLine q
-unfolding tellOpened
-whole-refused d cells r q e told = output-refused d q (sym told ∙ ap (λ (x : Opened). tellOpened x cells) e)
+  pub whole-read : (n : ℕ) → r ≡ Opened.Open n → tellOpened r cells ≡ opening d → Ready d cells n → (room : ℕ)
+      → sessionOutcome d room ≡ inRoom room (allLines d (chainAt cells n))
+  unfolding tellOpened sessionOutcome fitting
+  whole-read n e told k room =
+      ap (fitting room) (text-lines d (chainAt cells n) (k .sheet) (sym told ∙ ap (λ (x : Opened). tellOpened x cells) e))
+
+  pub whole-refused : (q : Refusal) → r ≡ Opened.Refused q → tellOpened r cells ≡ opening d → (room : ℕ)
+      → (sessionOutcome d room ≡ refused q) × (lengthWith q ≡ 0)
+  unfolding tellOpened sessionOutcome fitting
+  whole-refused q e told room =
+      let t = text-refused d q (isSheet d) refl (sym told ∙ ap (λ (x : Opened). tellOpened x cells) e) in
+      (ap (fitting room) (t .0), t .1)
+
+  -- the program's two ways: it writes the lines of all records, or the line of the refusal
+  pub output-read : (n : ℕ) → r ≡ Opened.Open n → tellOpened r cells ≡ opening d → Ready d cells n → output d ≡ allLines d (chainAt cells n)
+  unfolding tellOpened output asOutput
+  output-read n e told k = ap asOutput (text-lines d (chainAt cells n) (k .sheet) (sym told ∙ ap (λ (x : Opened). tellOpened x cells) e))
+
+  pub output-refused : (q : Refusal) → r ≡ Opened.Refused q → tellOpened r cells ≡ opening d → output d ≡ refusalLine q
+  unfolding tellOpened output asOutput
+  output-refused q e told = ap asOutput (text-refused d q (isSheet d) refl (sym told ∙ ap (λ (x : Opened). tellOpened x cells) e) .0)

@@ -1,11 +1,10 @@
--- Scaffolding, for proofs alone: the program's output by places in the sheet, as the code walks along it. Assumes nothing.
+-- Scaffolding, for proofs alone: the lines of a sheet by places in it, as the code walks along it. Assumes nothing.
 use Prim.Native.Nat.{ℕ, zero, suc, _+_, _-_, _*_, _≤_}
 use mathlib.Core.Path.{_≡_}
 use mathlib.Core.Bool.{true}
 use mathlib.Core.List.{List, [], _++_}
 use lib.ListN.{length, getD}
 use Rattle.buffer.specs.Bytes.{part}
-use Rattle.buffer.specs.Buffer.{putAt}
 use Rattle.buffer.specs.Table.{Maybe, none, some}
 use Rattle.refusals.specs.declared.Refusal.{Refusal}
 use Rattle.segments.specs.Segments.{LogSegments}
@@ -96,10 +95,6 @@ linesFrom (suc m) d s i j = lineAt d s i j ++ linesFrom m d s (i + 4) (j + u32 d
 -- the lines of the records that are left at w
 abbrev pub linesLeft : List ℕ → LogSegments → Walk → List ℕ
 linesLeft d s w = linesFrom (w .left) d s (w .i) (w .j)
-
--- d became d′: the text x, a line at most, stands at its front, and r is its length
-abbrev pub Shows : List ℕ → List ℕ → List ℕ → ℕ → Type 0
-Shows d d′ x r = (r ≡ length x) × ((r ≤ 65537) × (d′ ≡ putAt d 0 x))
 
 -- the lines of all records
 unfoldable pub allLines : List ℕ → LogSegments → List ℕ

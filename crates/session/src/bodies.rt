@@ -22,7 +22,7 @@ fn contents_end(d: &[u8]) -> usize
 }
 
 // Where the first record begins.
-pub fn records_from(d: &[u8]) -> usize
+pub(crate) fn records_from(d: &[u8]) -> usize
     requires { ⌜ isSheet (now d) ≡ true ⌝ }
     ensures { λ r. ⌜ r ≡ recordsFrom (now (d .entry)) ⌝ }
 {
@@ -30,7 +30,7 @@ pub fn records_from(d: &[u8]) -> usize
 }
 
 // The settings: the first byte of body 0.
-pub fn settings_in(d: &[u8]) -> Settings
+pub(crate) fn settings_in(d: &[u8]) -> Settings
     requires { ⌜ isSheet (now d) ≡ true ⌝ }
     ensures { λ r. ⌜ r ≡ settingsOf (getD (now (d .entry)) (contentsEnd (now (d .entry))) 0) ⌝ }
 {
@@ -39,7 +39,7 @@ pub fn settings_in(d: &[u8]) -> Settings
 }
 
 // The template: the rest of body 0.
-pub fn template_in(d: &[u8]) -> &[u8]
+pub(crate) fn template_in(d: &[u8]) -> &[u8]
     requires { ⌜ isSheet (now d) ≡ true ⌝ }
     ensures { λ r. ⌜ now r ≡ templateIn (now (d .entry)) ⌝ }
 {
@@ -49,7 +49,7 @@ pub fn template_in(d: &[u8]) -> &[u8]
 }
 
 // The record whose length stands at the place i of the contents, and which begins at the place j.
-pub fn record_in(d: &[u8], i: usize, j: usize) -> &[u8]
+pub(crate) fn record_in(d: &[u8], i: usize, j: usize) -> &[u8]
     requires { ⌜ Lies (now d) i j ⌝ }
     ensures { λ r. ⌜ now r ≡ part j (j + u32 (now (d .entry)) i) (now (d .entry)) ⌝ }
 {

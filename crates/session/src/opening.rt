@@ -6,10 +6,8 @@ use sheet::is_sheet;
 use template::Parsed;
 use template::parse;
 ghost use mathlib.Core.Path.{_≡_};
-ghost use mathlib.Core.Bool.{true};
 ghost use Prim.Native.Nat.{_≤_};
 ghost use lib.ListN.{length};
-ghost use Rattle.sheet.specs.Sheets.{isSheet};
 ghost use Rattle.session.specs.Walking.{opening, tellOpened, OpenedKeeps};
 
 // The refusal of the whole sheet, or the segments of its template in the pool.
@@ -18,17 +16,9 @@ pub fn open_sheet(d: &[u8], cells: &mut [usize]) -> Opened
     ensures told { λ r. ⌜ tellOpened r (now (cells .exit)) ≡ opening (now (d .entry)) ⌝ }
     ensures keeps { λ r. ⌜ OpenedKeeps (now (d .entry)) (now (cells .exit)) r ⌝ }
 {
-    if is_sheet(d) {
-        return read_template(d, cells);
+    if !is_sheet(d) {
+        return Opened::Refused(Refusal::NotASheet);
     }
-    Opened::Refused(Refusal::NotASheet)
-}
-
-fn read_template(d: &[u8], cells: &mut [usize]) -> Opened
-    requires { ⌜ (isSheet (now d) ≡ true) × (512 ≤ length (now cells)) ⌝ }
-    ensures told { λ r. ⌜ tellOpened r (now (cells .exit)) ≡ opening (now (d .entry)) ⌝ }
-    ensures keeps { λ r. ⌜ OpenedKeeps (now (d .entry)) (now (cells .exit)) r ⌝ }
-{
     let read = parse(template_in(d), cells);
     match read {
         Parsed::Read(n) => Opened::Open(n),

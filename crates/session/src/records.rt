@@ -9,10 +9,10 @@ ghost use Prim.Native.Nat.{_+_, _≤_};
 ghost use lib.ListN.{length};
 ghost use Rattle.buffer.specs.Buffer.{Puts};
 ghost use Rattle.segments.specs.Pool.{chainAt};
-ghost use Rattle.session.specs.Walking.{Ready, Lies, lineAt, Shows};
+ghost use Rattle.session.specs.Walking.{Ready, Lies, lineAt};
 
 // How many bytes are written for a record.
-pub fn record_length(d: &[u8], cells: &[usize], n: usize, i: usize, j: usize) -> usize
+pub(crate) fn record_length(d: &[u8], cells: &[usize], n: usize, i: usize, j: usize) -> usize
     requires { ⌜ Ready (now d) (now cells) n × Lies (now d) i j ⌝ }
     ensures { λ r. ⌜ (r ≡ length (lineAt (now (d .entry)) (chainAt (now (cells .entry)) n) i j)) × (r ≤ 65537) ⌝ }
 {
@@ -42,13 +42,4 @@ pub fn put_record(
         out,
         at,
     )
-}
-
-// The text of a record at the front of a buffer that holds any.
-pub fn record_text(d: &[u8], cells: &[usize], n: usize, i: usize, j: usize, out: &mut [u8]) -> usize
-    requires { ⌜ Ready (now d) (now cells) n × Lies (now d) i j ⌝ }
-    requires { ⌜ 65537 ≤ length (now out) ⌝ }
-    ensures { λ r. ⌜ Shows (now (out .entry)) (now (out .exit)) (lineAt (now (d .entry)) (chainAt (now (cells .entry)) n) i j) r ⌝ }
-{
-    put_record(d, cells, n, i, j, out, 0)
 }

@@ -6,7 +6,7 @@ use sheet::body_count;
 use sheet::body_length;
 ghost use mathlib.Core.Path.{_≡_};
 ghost use mathlib.Core.Bool.{true};
-ghost use Prim.Native.Nat.{_≤_, _<_};
+ghost use Prim.Native.Nat.{_≤_, _<_, _^_};
 ghost use lib.ListN.{length};
 ghost use Rattle.buffer.specs.Buffer.{putAt};
 ghost use Rattle.segments.specs.Pool.{chainAt};
@@ -45,9 +45,9 @@ pub fn next_record(d: &[u8], w: Walk) -> Walk
 }
 
 // How many bytes are written for all records: at most 65,535 lines of at most 65,537 bytes.
-pub fn records_length(d: &[u8], cells: &[usize], n: usize) -> usize
+pub(crate) fn records_length(d: &[u8], cells: &[usize], n: usize) -> usize
     requires { ⌜ Ready (now d) (now cells) n ⌝ }
-    ensures { λ r. ⌜ r ≡ length (allLines (now (d .entry)) (chainAt (now (cells .entry)) n)) ⌝ }
+    ensures { λ r. ⌜ (r ≡ length (allLines (now (d .entry)) (chainAt (now (cells .entry)) n))) × (r < 2 ^ 56) ⌝ }
 {
     let mut w = first_record(d);
     let mut sum = 0;
@@ -59,7 +59,7 @@ pub fn records_length(d: &[u8], cells: &[usize], n: usize) -> usize
 }
 
 // Writes them at the front of a buffer that holds them.
-pub fn put_records(d: &[u8], cells: &[usize], n: usize, out: &mut [u8])
+pub(crate) fn put_records(d: &[u8], cells: &[usize], n: usize, out: &mut [u8])
     requires { ⌜ Ready (now d) (now cells) n ⌝ }
     requires { ⌜ length (allLines (now d) (chainAt (now cells) n)) ≤ length (now out) ⌝ }
     ensures { λ _. ⌜ now (out .exit) ≡ putAt (now (out .entry)) 0 (allLines (now (d .entry)) (chainAt (now (cells .entry)) n)) ⌝ }

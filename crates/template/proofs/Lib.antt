@@ -1,2 +1,3 @@
 -- Laws of the definitions, one for each case, that the proofs of this layer cite.
 pub mod Topped
+pub mod Refusing

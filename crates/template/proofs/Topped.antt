@@ -18,7 +18,7 @@ use Rattle.segments.specs.Sizes.{size, sizes, Low, Lows}
 use Rattle.segments.specs.Pool.{segmentAt, chainAt, back, Sound}
 use Rattle.segments.proofs.Fronts.{chain-front}
 use Rattle.segments.proofs.Chains.{chain-none, chain-step}
-use Rattle.segments.proofs.Growing.{sound-none, sound-front}
+use Rattle.segments.proofs.Growing.{sound-none, sound-front, tidy-none, tidy-front}
 use Rattle.segments.proofs.Joining.{sizes-and-then, lows-and-then}
 use Rattle.building.specs.declared.Reading.{Reading}
 use Rattle.template.specs.declared.Parsed.{Parsed}
@@ -98,6 +98,7 @@ module _ (lo to : ℕ) (b a : List ℕ) (n j k : ℕ) (f : take (8 * n) a ≡ ta
         sound = h .sound;
         counted = (let s : sizes (chainAt a k) ≡ k = omega arith in s);
         low = subst (Lows 8) (sym top-grown) (lows-and-then 8 (chainAt b n) (segmentAt a (k - 1)) (v .low) (h .low));
+        tidy = h .tidy (tidy-front b a n (v .tidy) f) (λ z. refl);
       }
 
 pub none-kept : (cells : List ℕ) → ReadKeeps cells 0
@@ -109,6 +110,7 @@ none-kept cells =
       sound = sound-none cells;
       counted = subst (λ (x : LogSegments). sizes x ≡ 0) s refl;
       low = subst (Lows 8) s tt;
+      tidy = tidy-none cells;
     }
 
 pub top-begins : (try : ℕ → Top → Tried Top) (m : ℕ) (cells : List ℕ) → repeated try m 0 (topOf cells 0) ≡ repeated try m 0 (record { segments = none; made = 0 })
@@ -171,4 +173,5 @@ read-after b a n h f =
       sound = sound-front b a n (h .sound) f;
       counted = subst (λ (x : LogSegments). sizes x ≡ n) s (h .counted);
       low = subst (Lows 8) s (h .low);
+      tidy = tidy-front b a n (h .tidy) f;
     }

@@ -3,7 +3,7 @@ use Prim.Native.Nat.{ℕ, _≤_}
 use mathlib.Core.Path.{_≡_}
 use mathlib.Core.List.{List}
 use Rattle.segments.specs.Sizes.{sizes, Lows}
-use Rattle.segments.specs.Pool.{chainAt, Sound}
+use Rattle.segments.specs.Pool.{chainAt, Sound, Tidy}
 use Rattle.template.specs.declared.Parsed.{Parsed}
 use Rattle.template.specs.Template.{Template, read, refusal}
 
@@ -18,6 +18,7 @@ pub record ReadKeeps (cells : List ℕ) (n : ℕ) : Type 0 where
   pub sound : Sound cells n
   pub counted : sizes (chainAt cells n) ≡ n
   pub low : Lows 8 (chainAt cells n)
+  pub tidy : Tidy cells n
 
 abbrev pub ParsedKeeps : List ℕ → Parsed → Type 0
 ParsedKeeps cells (Parsed.Read n) = ReadKeeps cells n

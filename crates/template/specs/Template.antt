@@ -25,9 +25,13 @@ ended (fit s j) = withMessage (s .segments)
 ended misfit = withMessage none
 ended (refused r) = refusal r
 
--- "Where neither fits, reading stops and the rest is dropped"
+-- "Where neither fits, reading stops and the rest is dropped": what a template is read as, from its first byte on
+abbrev pub reading : List ℕ → Tried Top
+reading t = repeated (topAt t (length t)) (length t) 0 (record { segments = none; made = 0 })
+
+-- a template that is short enough and UTF-8
 unfoldable pub topLevel : List ℕ → Template
-topLevel t = ended (repeated (topAt t (length t)) (length t) 0 (record { segments = none; made = 0 }))
+topLevel t = ended (reading t)
 
 -- "Order: 1; 2; then 3 and 5 to 10, the first met in the crate's own order of trying; 4"
 unfoldable pub readTemplate : List ℕ → Template

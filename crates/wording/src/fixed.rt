@@ -37,7 +37,7 @@ fn place_of(x: Fixed) -> Place
     }
 }
 
-pub fn add_fixed(x: Fixed, a: Measure) -> Measure
+pub(crate) fn add_fixed(x: Fixed, a: Measure) -> Measure
     requires { ⌜ (Small a) × (a .len + length (fixedText x) < 2 ^ 58) ⌝ }
     ensures { λ r. ⌜ r ≡ grown a (fixedText x) ⌝ }
 {
@@ -48,14 +48,14 @@ pub fn add_fixed(x: Fixed, a: Measure) -> Measure
     add(a, &texts[from..to])
 }
 
-pub fn fixed_len(x: Fixed) -> usize
+pub(crate) fn fixed_len(x: Fixed) -> usize
     ensures { λ r. ⌜ r ≡ length (fixedText x) ⌝ }
 {
     let p = place_of(x);
     p.to - p.from
 }
 
-pub fn put_fixed(x: Fixed, out: &mut [u8], at: usize) -> usize
+pub(crate) fn put_fixed(x: Fixed, out: &mut [u8], at: usize) -> usize
     requires { ⌜ at + length (fixedText x) ≤ length (now out) ⌝ }
     ensures { λ r. ⌜ Puts (now (out .entry)) (now (out .exit)) at (fixedText x) r ⌝ }
 {

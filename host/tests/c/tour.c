@@ -128,6 +128,8 @@ static void show_session(const uint8_t *sheet, size_t size)
 
     if (pralakuon_refusal_of(answer) == 0)
         printf("session of %zu bytes:\n%.*s", size, (int)pralakuon_length_of(answer), (char *)out);
+    else
+        printf("session of %zu bytes is refused: %u\n", size, pralakuon_refusal_of(answer));
 }
 
 int main(void)

@@ -43,9 +43,14 @@ pub fn told(number: u8) -> Vec<u8> {
     format!("! {number}\n").into_bytes()
 }
 
-/// The archive says that this is no sheet. Only a record that says `! 15` itself could be taken for that.
+/// The archive says that this is no sheet.
 pub fn archive_refuses(sheet: &[u8]) -> bool {
-    session(sheet) == told(15)
+    session(sheet) == Err(Refusal::NotASheet)
+}
+
+/// What the program prints for a sheet, by what a session call answers.
+pub fn printed(sheet: &[u8]) -> Vec<u8> {
+    session(sheet).unwrap_or_else(|refusal| told(refusal.number()))
 }
 
 /// What is seen of a line whose only bytes 27 are those of colour: all but the sequences from there to `m`.

@@ -22,10 +22,10 @@ impl Owed {
         }
     }
 
-    /// On both sides of what a line needs.
+    /// On both sides of what a line needs; a refusal needs none.
     fn rooms(&self, more: usize) -> Vec<usize> {
         match self {
-            Owed::Refused(_) => vec![more],
+            Owed::Refused(_) => vec![more, 0],
             Owed::Line(line) if line.is_empty() => vec![0, more],
             Owed::Line(line) => vec![line.len() + more, line.len(), line.len() - 1, 0],
         }
@@ -39,8 +39,8 @@ pub fn line(template: &[u8], settings: u8, record: &[u8], owed: &Owed, more: usi
         .map_err(|parting| format!("line, settings {settings}, {parting}"))
 }
 
-pub fn session(sheet: &[u8], owed: &[u8], more: usize) -> Held {
-    hold(&Owed::Line(owed.to_vec()), &[sheet], more, |lent, out| entries::session(lent[0].part(), out))
+pub fn session(sheet: &[u8], owed: &Owed, more: usize) -> Held {
+    hold(owed, &[sheet], more, |lent, out| entries::session(lent[0].part(), out))
         .map_err(|parting| format!("session, {parting}"))
 }
 

@@ -56,7 +56,7 @@ impl Case {
                 if sheet.as_ref().map_or(false, Sheet::colour) != colour {
                     return Ok(());
                 }
-                calls::session(bytes, &output(sheet.as_ref(), seen)?, more)
+                calls::session(bytes, &session(sheet.as_ref(), seen)?, more)
             }
             Case::BuiltIn(choice) if !colour => compare_built_in(*choice, more),
             Case::BuiltIn(_) => Ok(()),
@@ -84,19 +84,20 @@ fn compare_line(
     Ok(())
 }
 
-/// What the program must write.
-fn output(sheet: Option<&Sheet>, seen: &mut Seen) -> Result<Vec<u8>, String> {
-    let refused = |number: u8| format!("! {number}\n").into_bytes();
+/// What a session call owes: a refusal of the whole sheet, or the lines of its records.
+fn session(sheet: Option<&Sheet>, seen: &mut Seen) -> Result<Owed, String> {
+    let mut whole = |number: u8| {
+        seen.add(&Owed::Refused(number));
+        Ok(Owed::Refused(number))
+    };
     let Some(sheet) = sheet else {
-        seen.add(&Owed::Refused(15));
-        return Ok(refused(15));
+        return whole(15);
     };
     let ruled = Ruled::new(&sheet.template)?;
     if let Some(number) = ruled.refusal() {
-        seen.add(&Owed::Refused(number));
-        return Ok(refused(number));
+        return whole(number);
     }
-    let mut output = Vec::new();
+    let mut lines = Vec::new();
     for record in &sheet.records {
         let owed = &ruled.owed(record, sheet.colour(), &mut seen.listed)?[usize::from(sheet.settings & STRAIGHT != 0)];
         let owed = match owed {
@@ -105,11 +106,11 @@ fn output(sheet: Option<&Sheet>, seen: &mut Seen) -> Result<Vec<u8>, String> {
         };
         seen.add(owed);
         match owed {
-            Owed::Line(line) => output.extend([line, &b"\n"[..]].concat()),
-            Owed::Refused(number) => output.extend(refused(*number)),
+            Owed::Line(line) => lines.extend([line, &b"\n"[..]].concat()),
+            Owed::Refused(number) => lines.extend(format!("! {number}\n").into_bytes()),
         }
     }
-    Ok(output)
+    Ok(Owed::Line(lines))
 }
 
 /// The words of a built-in are the crate's, and what the crate's own formatter reads of them is what is ruled.

@@ -7,7 +7,7 @@ use Rattle.record.specs.Layout.{laidOut}
 use Rattle.answer.specs.Answers.{answerOf, bufferAfter}
 use Rattle.answer.proofs.Answering.{read-short, read-outcome, unread-outcome}
 use Rattle.packing.proofs.Rooms.{packable-refused}
-use Rattle.answer.proofs.Unsized.{template-unsized}
+use Rattle.template.proofs.Refusing.{template-refuses, unsized}
 use borrow.Author.Needs.{needs}
 use Rattle.answer.proofs.read_and_answer.Statement.{statement}
 use Rattle.answer.proofs.read_and_answer.Tie as tie
@@ -63,7 +63,7 @@ returns-2 c =
     let told = sym (q .ensures .0) ∙ ap (λ (x : Parsed). tellParsed x cells) eq in
     let r = c .before .read2 .given .0 .0 in
     let o = unread-outcome (p .args .s) (p .args .t .now) (laidOut (p .args .d .now)) (length (p .args .out .now)) r told in
-    (ap answerOf o, (ap (bufferAfter (p .args .out .now)) o, packable-refused r (template-unsized (p .args .t .now) r told)))
+    (ap answerOf o, (ap (bufferAfter (p .args .out .now)) o, packable-refused r (unsized r (template-refuses (p .args .t .now) r told))))
 
 pub read-and-answer-spec : {M : Type 1} → statement M
 read-and-answer-spec =

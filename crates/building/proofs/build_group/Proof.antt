@@ -40,7 +40,7 @@ same-length c = search needs
 
 -- src/build.rt:61:1
 returns-4 : tie.Need-returns-4
-returns-4 c = (group-told _ _ _ _ (c .before .before .before .before .before .before .before .before .before .before .if1 .left) (sym (c .before .before .before .before .before .before .before .before .before .before .before .before .before .pre .1 .direct) ∙ not-false _ (c .before .before .before .before .before .before .before .before .if2 .left)) (omega arith) _ (c .before .before .before .put-group .ensures), λ lo to n d h g u w. group-keeps _ _ (c .before .before .before .before .before .before .before .before .before .before .before .before .before .args .g) _ (c .before .before .before .before .before .before .before .before .before .before .before .before .before .pre .0) (omega arith) lo to _ h g (c .before .before .before .put-group .ensures) n d w u)
+returns-4 c = (group-told _ _ _ _ (c .before .before .before .before .before .before .before .before .before .before .if1 .left) (sym (c .before .before .before .before .before .before .before .before .before .before .before .before .before .pre .1 .direct) ∙ not-false _ (c .before .before .before .before .before .before .before .before .if2 .left)) (omega arith) _ (c .before .before .before .put-group .ensures .0), λ lo to n d h g u w. group-keeps _ _ (c .before .before .before .before .before .before .before .before .before .before .before .before .before .args .g) _ (c .before .before .before .before .before .before .before .before .before .before .before .before .before .pre .0) (omega arith) lo to _ h g (c .before .before .before .put-group .ensures .0) (c .before .before .before .put-group .ensures .1) n d w u)
 
 pub build-group-spec : {M : Type 1} → statement M
 build-group-spec =

@@ -11,7 +11,7 @@ use Rattle.buffer.specs.Bytes.{part}
 use Rattle.buffer.specs.Buffer.{putAt}
 use Rattle.colour.specs.Looks.{prefix}
 use Rattle.colour.specs.Formatting.{padByte}
-use Rattle.dress.proofs.Laying.{fits-search, text-searched}
+use Rattle.dress.proofs.Laying.{same-end, same-around}
 
 slice-aggregate-put-prefix : tie.Need-slice-aggregate-put-prefix
 slice-aggregate-put-prefix c = search needs
@@ -40,7 +40,7 @@ lay-requires c κs =
     let e = ap (λ (n : ℕ). take n (r .last .1 .0)) (sub-zero (r .result)) ∙ r .ensures .1 .0 in (
       (
         s .pre .0 .0,
-        fits-search (prefix (s .args .f .look)) (take (r .result - 0) (r .last .1 .0)) (part (s .args .i) (s .args .e) (s .args .out .now))
+        same-end (prefix (s .args .f .look)) (take (r .result - 0) (r .last .1 .0)) (part (s .args .i) (s .args .e) (s .args .out .now))
             (s .args .at) (s .args .l) (s .args .e) e (s .pre .0 .1),
       ),
       s .pre .1,
@@ -59,7 +59,7 @@ returns c =
       w .ensures .0,
       w .ensures .1
           ∙ ap (putAt (s .args .out .now) (s .args .at))
-          (text-searched (prefix (s .args .f .look)) (take (r .result - 0) (r .last .1 .0)) (part (s .args .i) (s .args .e) (s .args .out .now))
+          (same-around (prefix (s .args .f .look)) (take (r .result - 0) (r .last .1 .0)) (part (s .args .i) (s .args .e) (s .args .out .now))
           (s .args .l) (s .args .r) (z .result) (padByte (s .args .f .padding)) e (z .ensures)),
     )
 

@@ -7,8 +7,7 @@ use mathlib.Core.List.{List}
 use native.Mathlib.Omega.{arith}
 use lib.ListN.{length}
 use Prim.Native.Nat.{ℕ}
-use Rattle.colour.specs.declared.State.the-variants.{Outside}
-use Rattle.colour.specs.Machine.{ins}
+use Rattle.colour.specs.Sequences.{reinserted}
 use Rattle.dress.proofs.Laying.{text-kept, five-writes}
 
 put-requires : tie.Need-put-requires
@@ -27,7 +26,7 @@ spread-requires c κs =
       s .pre .0 .0,
       (
         omega (arith, f .fill .kept .0, g .put .kept .0, s .pre),
-        omega (arith, f .fill .ensures .0, g .put .ensures .0, s .pre, ap (λ (x : List ℕ). length (ins (s .args .p .now) Outside x)) k),
+        omega (arith, f .fill .ensures .0, g .put .ensures .0, s .pre, ap (λ (x : List ℕ). length (reinserted (s .args .p .now) x)) k),
       ),
     )
 

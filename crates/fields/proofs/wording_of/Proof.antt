@@ -3,7 +3,7 @@ use borrow.Author.Needs.{needs}
 use native.Mathlib.Omega.{arith}
 use mathlib.Core.Path.{ap, _∙_}
 use Rattle.fields.proofs.Texts.{line-shown, message-shown, level-shown, worded-as}
-use Rattle.formats.specs.Levels.{nameOf}
+use Rattle.record.specs.Levels.{nameOf}
 use Rattle.fields.proofs.wording_of.Statement.{statement}
 use Rattle.fields.proofs.wording_of.Tie as tie
 

@@ -23,7 +23,7 @@ first-component-requires : tie.Need-first-component-requires Inv-loop μ-loop
 first-component-requires c κs = search needs
 
 loop-holds : tie.Need-loop-holds Inv-loop μ-loop
-loop-holds c = (omega (arith, ap length (c .first-component .ensures .0)), c .first-component .ensures .1)
+loop-holds c = (omega (arith, ap length (c .first-component .ensures .0 .0)), c .first-component .ensures .0 .1)
 
 enum-known-c : tie.Need-enum-known-c Inv-loop μ-loop
 enum-known-c c = search needs

@@ -1,9 +1,10 @@
 -- `paths::first_component` meets its contract. Assumes nothing.
 use borrow.Author.Needs.{needs}
-use mathlib.Core.Path.{_∙_}
-use Prim.Native.Nat.{_<_}
+use mathlib.Core.Path.{sym, _∙_}
+use Prim.Native.Nat.{_-_, _<_}
 use native.Mathlib.Omega.{arith}
 use Rattle.paths.proofs.Pieces.{components-empty, components-rooted, components-plain}
+use Rattle.paths.proofs.Places.{first-none, first-slash, first-plain}
 use Rattle.paths.specs.Remaining.{componentsFrom}
 use Rattle.paths.proofs.first_component.Statement.{statement}
 use Rattle.paths.proofs.first_component.Tie as tie
@@ -12,7 +13,7 @@ returns : tie.Need-returns
 unfolding componentsFrom
 returns c =
     let a = c .before .before .args in
-    (components-empty (a .d .now) (a .from) (a .to) (omega arith), tt)
+    ((components-empty (a .d .now) (a .from) (a .to) (omega arith), tt), sym (first-none _ _ _ (omega arith)))
 
 shared-slice-read-if2 : tie.Need-shared-slice-read-if2
 shared-slice-read-if2 c = search needs
@@ -23,8 +24,10 @@ add-t7 c = search needs
 returns-2 : tie.Need-returns-2
 unfolding componentsFrom
 returns-2 c =
-    let p = c .before .before .before .before in
-    (components-rooted _ _ _ (omega arith) (p .pre .1) (c .if2 .taken), (search needs, search needs, omega arith))
+    let p = c .before .before .before .before in (
+      (components-rooted _ _ _ (omega arith) (p .pre .1) (c .if2 .taken), (search needs, search needs, omega arith)),
+      sym (first-slash (p .args .to - p .args .from) (p .args .to - p .args .from - 1) _ _ (omega arith) (c .if2 .taken)),
+    )
 
 next-component-requires : tie.Need-next-component-requires
 next-component-requires c κs = search needs
@@ -33,7 +36,10 @@ returns-3 : tie.Need-returns-3
 returns-3 c =
     let p = c .before .before .before .before .before in
     let h : p .args .from < p .args .to = omega arith in
-    (components-plain _ _ _ h (p .pre .1) (c .before .if2 .left) ∙ c .next-component .ensures .0, c .next-component .ensures .1)
+    let e = c .next-component .ensures in (
+      (components-plain _ _ _ h (p .pre .1) (c .before .if2 .left) ∙ e .0, e .1),
+      e .2 ∙ sym (first-plain (p .args .to - p .args .from) (p .args .to - p .args .from - 1) _ _ (omega arith) (c .before .if2 .left)),
+    )
 
 pub first-component-spec : {M : Type 1} → statement M
 first-component-spec =

@@ -73,7 +73,7 @@ same-length : tie.Need-same-length
 same-length c = search needs
 
 returns : tie.Need-returns
-returns c = dressed _ _ (omega arith) _ _ _ _ _ (ap storedColour (c .before .before .before .colour-number .ensures) ∙ colour-back _) (c .before .before .styles-number .ensures .0) (c .before .width-number .ensures) (c .fill-number .ensures)
+returns c = dressed _ _ (omega arith) _ _ _ _ _ (ap storedColour (c .before .before .before .colour-number .ensures) ∙ colour-back _) (c .before .before .styles-number .ensures .1 .0) (c .before .width-number .ensures .1) (c .fill-number .ensures .1, c .fill-number .ensures .2)
 
 pub dress-spec : {M : Type 1} → statement M
 dress-spec =

@@ -18,7 +18,7 @@ same-length : tie.Need-same-length
 same-length c = search needs
 
 returns : tie.Need-returns
-returns c = added-specifier _ _ _ _ _ _ (c .before .before .dress .ensures) (omega arith) _ _ _ (c .before .before .before .before .before .before .begin .ensures) (c .before .before .before .before .before .before .before .before .metadata-number .ensures)
+returns c = added-specifier _ _ _ _ _ _ (c .before .before .dress .ensures) (omega arith) _ _ _ (c .before .before .before .before .before .before .begin .ensures) (c .before .before .before .before .before .before .before .before .metadata-number .ensures .1)
 
 pub put-specifier-spec : {M : Type 1} → statement M
 put-specifier-spec =

@@ -2,7 +2,7 @@
 use borrow.Author.Needs.{needs}
 use Rattle.pralakuon.proofs.write_output.Statement.{statement}
 use Rattle.pralakuon.proofs.write_output.Tie as tie
-use Rattle.session.proofs.Places.{whole-read}
+use Rattle.session.proofs.Places.{ready}
 
 slice-aggregate-open-sheet : tie.Need-slice-aggregate-open-sheet
 slice-aggregate-open-sheet c = search needs
@@ -20,7 +20,7 @@ write-records-requires : tie.Need-write-records-requires
 write-records-requires c κs =
     let o = c .before .before .before .before .before .open-sheet in
     let e = c .before .before .opened in
-    whole-read (c .before .before .before .before .before .before .before .before .args .d .now) (o .last .1 .0) (o .result) (e .given .0 .0) (e .given .1) (o .ensures .0) (o .ensures .1) .0
+    ready (c .before .before .before .before .before .before .before .before .args .d .now) (o .last .1 .0) (o .result) (e .given .0 .0) (e .given .1) (o .ensures .1)
 
 enum-known-opened-2 : tie.Need-enum-known-opened-2
 enum-known-opened-2 c = search needs

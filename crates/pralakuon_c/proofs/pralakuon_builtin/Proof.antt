@@ -35,7 +35,7 @@ returns c =
     let n = c .before .before .before .before .put-chosen in
     let x = chosen (p .style) (p .location) (p .timestamp) (p .host) in
     let a = c .before .answer-in .ensures ∙ ap (answerIn (length d)) (n .ensures .0) ∙ answer-in-room (length d) x in
-    (c .pack .ensures ∙ ap packedAnswer a ∙ packed-answer (inRoom (length d) x), n .ensures .1 ∙ written-in-room d x)
+    record { returned = c .pack .ensures ∙ ap packedAnswer a ∙ packed-answer (inRoom (length d) x); buffer = n .ensures .1 ∙ written-in-room d x }
 
 pub pralakuon-builtin-spec : {M : Type 1} → statement M
 pralakuon-builtin-spec =

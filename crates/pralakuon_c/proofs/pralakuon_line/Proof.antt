@@ -1,7 +1,6 @@
 -- `pralakuon_c::pralakuon_line` meets its contract. Assumes nothing.
 use mathlib.Core.Path.{ap, _∙_}
-use lib.ListN.{length}
-use Rattle.answer.specs.Answers.{callOutcome}
+use Rattle.answer.specs.Answers.{lineEntry}
 use Rattle.packing.specs.Packing.{packedAnswer}
 use Rattle.answer.proofs.Answering.{packed-answer}
 use borrow.Author.Needs.{needs}
@@ -21,8 +20,8 @@ returns : tie.Need-returns
 returns c =
     let p = c .before .before .before .before .before .before .before .before in
     let k = c .before .before .before .line in
-    let o = callOutcome (p .args .settings) (p .args .t .now) (p .args .d .now) (length (p .args .out .now)) in
-    (c .pack .ensures ∙ ap packedAnswer (k .ensures .0) ∙ packed-answer o, k .ensures .1 .0)
+    let o = lineEntry (p .args .t .now) (p .args .settings) (p .args .d .now) (p .args .out .now) in
+    record { returned = c .pack .ensures ∙ ap packedAnswer (k .ensures .0) ∙ packed-answer o; buffer = k .ensures .1 .0 }
 
 pub pralakuon-line-spec : {M : Type 1} → statement M
 pralakuon-line-spec = tie.close (tie.spec line-requires pack-requires same-length returns)

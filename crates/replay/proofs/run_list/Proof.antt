@@ -4,6 +4,9 @@ use Rattle.replay.proofs.run_list.Tie as tie
 use native.Mathlib.Omega.{arith}
 use Prim.Native.Nat.{_-_, _≤_}
 use borrow.Author.Needs.{needs}
+use mathlib.Core.Path.{ap}
+use Rattle.replay.specs.declared.Tally.{Tally}
+use Rattle.replay.proofs.Saying.{counted-most}
 
 abbrev Inv-loop : tie.InvT-loop
 Inv-loop t₀ turns₀ t4 t5 t6 t turns = (turns ≤ 1000000) × ((t .run ≤ turns) × ((t .parted ≤ turns) × (t .skipped ≤ turns)))
@@ -34,7 +37,13 @@ loop-less c = search needs
 loop-again : tie.Need-loop-again Inv-loop μ-loop
 loop-again c =
     let i = c .before .before .before .before .before .loop .inv in
-    omega (arith, i, c .before .before .before .before .loop-test .taken, c .tallied .ensures)
+    let v = c .before .before .before .next-case .result in
+    let m = counted-most (c .before .before .before .before .before .loop .t) v in
+    let e = c .tallied .ensures in
+    let r = ap (λ (x : Tally). x .run) e in
+    let p = ap (λ (x : Tally). x .parted) e in
+    let s = ap (λ (x : Tally). x .skipped) e in
+    omega (arith, i, c .before .before .before .before .loop-test .taken, m, r, p, s)
 
 slice-aggregate-say : tie.Need-slice-aggregate-say Inv-loop μ-loop
 slice-aggregate-say c = search needs

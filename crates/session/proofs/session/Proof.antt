@@ -1,13 +1,12 @@
 -- `session::session` meets its contract. Assumes nothing.
 use borrow.Author.Needs.{needs}
+use mathlib.Core.Path.{sym, ap, _∙_}
+use lib.ListN.{length}
+use Rattle.answer.specs.Answers.{answerOf, bufferAfter}
+use Rattle.packing.proofs.Rooms.{packable-refused}
+use Rattle.session.proofs.Places.{ready, whole-read, whole-refused}
 use Rattle.session.proofs.session.Statement.{statement}
 use Rattle.session.proofs.session.Tie as tie
-use Prim.Native.Nat.{ℕ}
-use mathlib.Core.Path.{sym, ap, _∙_}
-use mathlib.Core.List.{List}
-use lib.ListN.{length}
-use Rattle.session.proofs.Places.{whole-read, whole-refused}
-use Rattle.answer.specs.Answers.{inRoom, answerOf, bufferAfter}
 
 slice-aggregate-open-sheet : tie.Need-slice-aggregate-open-sheet
 slice-aggregate-open-sheet c = search needs
@@ -23,31 +22,38 @@ slice-aggregate-all-records c = search needs
 
 all-records-requires : tie.Need-all-records-requires
 all-records-requires c κs =
-    whole-read (c .before .before .before .before .before .before .before .before .before .before .args .d .now) (c .before .before .before .before .before .before .open-sheet .last .1 .0) (c .before .before .before .before .before .before .open-sheet .result) (c .before .before .before .opened .given .0 .0) (c .before .before .before .opened .given .1) (c .before .before .before .before .before .before .open-sheet .ensures .0) (c .before .before .before .before .before .before .open-sheet .ensures .1) .0
+    let e = c .before .before .before in
+    let o = e .before .before .before in
+    let p = o .before .before .before .before .args in
+    ready (p .d .now) (o .open-sheet .last .1 .0) (o .open-sheet .result) (e .opened .given .0 .0) (e .opened .given .1) (o .open-sheet .ensures .1)
 
 enum-known-opened-2 : tie.Need-enum-known-opened-2
 enum-known-opened-2 c = search needs
-
-refusal-alone-requires : tie.Need-refusal-alone-requires
-refusal-alone-requires c κs = search needs
 
 same-length : tie.Need-same-length
 same-length c = search needs
 
 returns : tie.Need-returns
 returns c =
-    let out = c .before .before .before .before .before .before .before .before .before .before .before .before .before .args .out .now in
-    let w = (whole-read (c .before .before .before .before .before .before .before .before .before .before .before .before .before .args .d .now) (c .before .before .before .before .before .before .before .before .before .open-sheet .last .1 .0) (c .before .before .before .before .before .before .before .before .before .open-sheet .result) (c .before .before .before .before .before .before .opened .given .0 .0) (c .before .before .before .before .before .before .opened .given .1) (c .before .before .before .before .before .before .before .before .before .open-sheet .ensures .0) (c .before .before .before .before .before .before .before .before .before .open-sheet .ensures .1)) .1 in
-    (c .before .before .all-records .ensures .0 ∙ ap (λ (x : List ℕ). answerOf (inRoom (length out) x)) (sym w), c .before .before .all-records .ensures .1 ∙ ap (λ (x : List ℕ). bufferAfter out (inRoom (length out) x)) (sym w))
-
-same-length-2 : tie.Need-same-length-2
-same-length-2 c = search needs
+    let all = c .before .before .all-records in
+    let e = c .before .before .before .before .before .before in
+    let o = e .before .before .before in
+    let p = o .before .before .before .before .args in
+    let cells = o .open-sheet .last .1 .0 in
+    let r = o .open-sheet .result in
+    let n = e .opened .given .0 .0 in
+    let k = ready (p .d .now) cells r n (e .opened .given .1) (o .open-sheet .ensures .1) in
+    let w = sym (whole-read (p .d .now) cells r n (e .opened .given .1) (o .open-sheet .ensures .0) k (length (p .out .now))) in
+    (all .ensures .0 ∙ ap answerOf w, (all .ensures .1 .0 ∙ ap (bufferAfter (p .out .now)) w, all .ensures .1 .1))
 
 returns-2 : tie.Need-returns-2
+unfolding answerOf bufferAfter
 returns-2 c =
-    let out = c .before .before .before .before .before .before .before .before .before .before .before .before .args .out .now in
-    let w = whole-refused (c .before .before .before .before .before .before .before .before .before .before .before .before .args .d .now) (c .before .before .before .before .before .before .before .before .open-sheet .last .1 .0) (c .before .before .before .before .before .before .before .before .open-sheet .result) (c .before .before .before .before .before .opened2 .given .0 .0) (c .before .before .before .before .before .opened2 .given .1) (c .before .before .before .before .before .before .before .before .open-sheet .ensures .0) in
-    (c .before .before .refusal-alone .ensures .0 ∙ ap (λ (x : List ℕ). answerOf (inRoom (length out) x)) (sym w), c .before .before .refusal-alone .ensures .1 ∙ ap (λ (x : List ℕ). bufferAfter out (inRoom (length out) x)) (sym w))
+    let e = c .before .opened2 in
+    let o = c .before .before .before .before in
+    let p = o .before .before .before .before .args in
+    let w = whole-refused (p .d .now) (o .open-sheet .last .1 .0) (o .open-sheet .result) (e .given .0 .0) (e .given .1) (o .open-sheet .ensures .0) (length (p .out .now)) in
+    (ap answerOf (sym (w .0)), (ap (bufferAfter (p .out .now)) (sym (w .0)), packable-refused (e .given .0 .0) (w .1)))
 
 pub session-spec : {M : Type 1} → statement M
 session-spec =
@@ -59,8 +65,6 @@ session-spec =
     slice-aggregate-all-records
     all-records-requires
     enum-known-opened-2
-    refusal-alone-requires
     same-length
     returns
-    same-length-2
     returns-2)

@@ -11,6 +11,7 @@ use Rattle.colour.specs.Formatting.{padByte}
 use Rattle.colour.specs.Machine.{actOf, moved, scan}
 use Rattle.colour.proofs.Scanning.{scan-free, sequences-grow, resets-grow}
 use Rattle.colour.proofs.Shows.{free-pad}
+use Rattle.scanning.proofs.Rests.{rests-outside}
 use Rattle.scanning.proofs.Searched.{same-step, same-end}
 use Rattle.measure.proofs.padding.scan_padding.Statement.{statement}
 use Rattle.measure.proofs.padding.scan_padding.Tie as tie
@@ -29,7 +30,7 @@ returns c =
     let p = c .before .before in
     let z = p .args .z in
     let n = p .args .n in
-    let h = c .before .rests .ensures (c .if1 .taken) in
+    let h = rests-outside (p .args .t .state) (p .args .t .held) (sym (c .before .rests .ensures) ∙ c .if1 .taken) in
     sym (scan-free (replicate n (padByte z)) (free-pad z n) (p .args .t) (h .0) (h .1))
 
 pad-byte-requires : tie.Need-pad-byte-requires Inv-loop μ-loop

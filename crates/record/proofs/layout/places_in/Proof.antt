@@ -2,7 +2,7 @@
 use borrow.Author.Needs.{needs}
 use mathlib.Core.Path.{refl}
 use native.Mathlib.Omega.{arith}
-use Rattle.record.proofs.Sizes.{right-size, laid-found}
+use Rattle.record.proofs.Sizes.{right-size, places-found}
 use Rattle.record.proofs.layout.places_in.Statement.{statement}
 use Rattle.record.proofs.layout.places_in.Tie as tie
 
@@ -75,7 +75,7 @@ returns c =
     let path = c .before .before .before .before .before .before .u16-at2 .ensures in
     let timestamp = c .before .before .before .before .before .u16-at3 .ensures in
     let message = c .before .before .before .before .u16-at4 .ensures in (
-      laid-found d _ (record {
+      places-found d _ (record {
         source = c .before .before .before .byte-at .ensures .0;
         level = c .before .before .byte-at2 .ensures .0;
         mask = c .before .byte-at3 .ensures .0;

@@ -11,11 +11,8 @@ kind-at-requires c κs = search needs
 format-at-requires : tie.Need-format-at-requires
 format-at-requires c κs = search needs
 
-shared-slice-read-level-of : tie.Need-shared-slice-read-level-of
-shared-slice-read-level-of c = search needs
-
-level-of-requires : tie.Need-level-of-requires
-level-of-requires c κs = search needs
+shared-slice-read-level : tie.Need-shared-slice-read-level
+shared-slice-read-level c = search needs
 
 enum-told : tie.Need-enum-told
 enum-told c = search needs
@@ -36,15 +33,15 @@ specifier-format-requires : tie.Need-specifier-format-requires
 specifier-format-requires c κs = search needs
 
 returns : tie.Need-returns
-returns c = text-format _ _ _ (c .before .before .before .before .before .before .kind-at .ensures) _ _ _ (c .before .enum-told .given .1) (c .before .before .before .before .before .before .before .before .before .pre .1)
+returns c = text-format _ _ _ (c .before .before .before .before .before .kind-at .ensures) _ _ _ (c .before .enum-told .given .1) (c .before .before .before .before .before .before .before .before .pre .1)
 
 returns-2 : tie.Need-returns-2
 unfolding levelBy
-returns-2 c = group-format _ _ _ (c .before .before .before .before .before .before .kind-at .ensures) _ _ _ _ (c .before .enum-told2 .given .1) (c .before .before .before .level-of .ensures) (c .before .before .before .before .before .format-at .ensures) (c .group-format2 .ensures)
+returns-2 c = group-format _ _ _ (c .before .before .before .before .before .kind-at .ensures) _ _ _ (c .before .enum-told2 .given .1) (c .before .before .before .before .format-at .ensures) (c .group-format2 .ensures)
 
 returns-3 : tie.Need-returns-3
 unfolding levelBy
-returns-3 c = specifier-format _ _ _ (c .before .before .before .before .before .before .before .kind-at .ensures) _ _ _ _ _ (c .before .before .kind .given .1) (c .before .before .before .before .level-of .ensures) (c .before .before .before .before .before .before .format-at .ensures) (c .specifier-format .ensures)
+returns-3 c = specifier-format _ _ _ (c .before .before .before .before .before .before .kind-at .ensures) _ _ _ _ (c .before .before .kind .given .1) (c .before .before .before .before .before .format-at .ensures) (c .specifier-format .ensures)
 
 pub format-of-spec : {M : Type 1} → statement M
 format-of-spec =
@@ -52,8 +49,7 @@ format-of-spec =
     (tie.spec
     kind-at-requires
     format-at-requires
-    shared-slice-read-level-of
-    level-of-requires
+    shared-slice-read-level
     enum-told
     group-format-requires
     enum-told-2

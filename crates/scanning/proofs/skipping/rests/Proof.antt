@@ -1,7 +1,8 @@
 -- `scanning::skipping::rests` meets its contract. Assumes nothing.
 use borrow.Author.Needs.{needs}
-use borrow.Author.Tests.{eqb-true}
-use Rattle.scanning.proofs.Searched.{never}
+use mathlib.Core.Path.{sym, ap}
+use Rattle.colour.specs.declared.State.{State}
+use Rattle.scanning.specs.Resting.{isResting}
 use Rattle.scanning.proofs.skipping.rests.Statement.{statement}
 use Rattle.scanning.proofs.skipping.rests.Tie as tie
 
@@ -21,19 +22,19 @@ enum-told-5 : tie.Need-enum-told-5
 enum-told-5 c = search needs
 
 returns : tie.Need-returns
-returns c = λ e. (c .before .enum-told .given .1, eqb-true _ _ e)
+returns c = sym (ap (λ (q : State). isResting q (c .before .before .before .args .t .held)) (c .before .enum-told .given .1))
 
 returns-2 : tie.Need-returns-2
-returns-2 c = λ e. absurd (never e)
+returns-2 c = sym (ap (λ (q : State). isResting q (c .before .before .args .t .held)) (c .enum-told2 .given .1))
 
 returns-3 : tie.Need-returns-3
-returns-3 c = λ e. absurd (never e)
+returns-3 c = sym (ap (λ (q : State). isResting q (c .before .before .args .t .held)) (c .enum-told3 .given .1))
 
 returns-4 : tie.Need-returns-4
-returns-4 c = λ e. absurd (never e)
+returns-4 c = sym (ap (λ (q : State). isResting q (c .before .before .args .t .held)) (c .enum-told4 .given .1))
 
 returns-5 : tie.Need-returns-5
-returns-5 c = λ e. absurd (never e)
+returns-5 c = sym (ap (λ (q : State). isResting q (c .before .before .args .t .held)) (c .enum-told5 .given .1))
 
 pub rests-spec : {M : Type 1} → statement M
 rests-spec =

@@ -4,6 +4,7 @@ use native.Mathlib.Omega.{arith}
 use mathlib.Core.Path.{sym, ap, _∙_}
 use Rattle.words.specs.declared.LogMetadata.{LogMetadata}
 use Rattle.segments.specs.declared.Kind.{Kind}
+use Rattle.segments.specs.Coding.{metadataNumber}
 use Rattle.segments.proofs.Codes.{count-back}
 use Rattle.segments.proofs.coding.metadata_number.Statement.{statement}
 use Rattle.segments.proofs.coding.metadata_number.Tie as tie
@@ -36,28 +37,31 @@ enum-told-7 : tie.Need-enum-told-7
 enum-told-7 c = search needs
 
 returns : tie.Need-returns
-returns c = ap Kind.Specifier (sym (c .enum-told .given .1))
+returns c = (ap metadataNumber (sym (c .enum-told .given .1)), ap Kind.Specifier (sym (c .enum-told .given .1)))
 
 returns-2 : tie.Need-returns-2
-returns-2 c = ap Kind.Specifier (ap LogMetadata.FileName (count-back _ (omega arith)) ∙ sym (c .before .m .given .1))
+returns-2 c = (
+  ap metadataNumber (sym (c .before .m .given .1)),
+  ap Kind.Specifier (ap LogMetadata.FileName (count-back _ (omega arith)) ∙ sym (c .before .m .given .1)),
+)
 
 returns-3 : tie.Need-returns-3
-returns-3 c = ap Kind.Specifier (sym (c .enum-told2 .given .1))
+returns-3 c = (ap metadataNumber (sym (c .enum-told2 .given .1)), ap Kind.Specifier (sym (c .enum-told2 .given .1)))
 
 returns-4 : tie.Need-returns-4
-returns-4 c = ap Kind.Specifier (sym (c .enum-told3 .given .1))
+returns-4 c = (ap metadataNumber (sym (c .enum-told3 .given .1)), ap Kind.Specifier (sym (c .enum-told3 .given .1)))
 
 returns-5 : tie.Need-returns-5
-returns-5 c = ap Kind.Specifier (sym (c .enum-told4 .given .1))
+returns-5 c = (ap metadataNumber (sym (c .enum-told4 .given .1)), ap Kind.Specifier (sym (c .enum-told4 .given .1)))
 
 returns-6 : tie.Need-returns-6
-returns-6 c = ap Kind.Specifier (sym (c .enum-told5 .given .1))
+returns-6 c = (ap metadataNumber (sym (c .enum-told5 .given .1)), ap Kind.Specifier (sym (c .enum-told5 .given .1)))
 
 returns-7 : tie.Need-returns-7
-returns-7 c = ap Kind.Specifier (sym (c .enum-told6 .given .1))
+returns-7 c = (ap metadataNumber (sym (c .enum-told6 .given .1)), ap Kind.Specifier (sym (c .enum-told6 .given .1)))
 
 returns-8 : tie.Need-returns-8
-returns-8 c = ap Kind.Specifier (sym (c .enum-told7 .given .1))
+returns-8 c = (ap metadataNumber (sym (c .enum-told7 .given .1)), ap Kind.Specifier (sym (c .enum-told7 .given .1)))
 
 pub metadata-number-spec : {M : Type 1} → statement M
 metadata-number-spec =

@@ -45,7 +45,7 @@ add-result : tie.Need-add-result
 add-result c = omega arith
 
 returns : tie.Need-returns
-returns c = (styles-back _ _ _ _ _ _ (c .before .before .before .before .flag .ensures .0) (c .before .before .before .flag2 .ensures .0) (c .before .before .flag3 .ensures .0) (c .before .flag4 .ensures .0) (c .flag5 .ensures .0) (omega arith), omega arith)
+returns c = (omega arith, (styles-back _ _ _ _ _ _ (c .before .before .before .before .flag .ensures .0) (c .before .before .before .flag2 .ensures .0) (c .before .before .flag3 .ensures .0) (c .before .flag4 .ensures .0) (c .flag5 .ensures .0) (omega arith), omega arith))
 
 pub styles-number-spec : {M : Type 1} → statement M
 styles-number-spec =

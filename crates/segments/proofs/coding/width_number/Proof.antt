@@ -1,8 +1,9 @@
 -- `segments::coding::width_number` meets its contract. Assumes nothing.
 use borrow.Author.Needs.{needs}
 use native.Mathlib.Omega.{arith}
-use mathlib.Core.Path.{sym, _∙_}
+use mathlib.Core.Path.{sym, ap, _∙_}
 use Rattle.segments.specs.Pool.{storedWidth}
+use Rattle.segments.specs.Coding.{widthNumber}
 use Rattle.segments.proofs.Codes.{width-more}
 use Rattle.segments.proofs.coding.width_number.Statement.{statement}
 use Rattle.segments.proofs.coding.width_number.Tie as tie
@@ -21,10 +22,10 @@ add-result c = omega arith
 
 returns : tie.Need-returns
 unfolding storedWidth
-returns c = sym (c .enum-told .given .1)
+returns c = (ap widthNumber (sym (c .enum-told .given .1)), sym (c .enum-told .given .1))
 
 returns-2 : tie.Need-returns-2
-returns-2 c = width-more _ (omega arith) ∙ sym (c .before .w .given .1)
+returns-2 c = (ap widthNumber (sym (c .before .w .given .1)), width-more _ (omega arith) ∙ sym (c .before .w .given .1))
 
 pub width-number-spec : {M : Type 1} → statement M
 width-number-spec = tie.close (tie.spec enum-told enum-known-w cast-result add-result returns returns-2)

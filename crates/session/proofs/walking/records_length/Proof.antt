@@ -59,7 +59,8 @@ returns : tie.Need-returns Inv-loop μ-loop
 returns c =
     let l = c .before .before in
     let p = l .before .before .before .before .args in
-    omega (arith, l .loop .inv .1 .0, ap length (lines-end (p .d .now) (chainAt (p .cells .now) (p .n)) (l .loop .w) (omega (arith, c .if1 .left))))
+    let none = ap length (lines-end (p .d .now) (chainAt (p .cells .now) (p .n)) (l .loop .w) (omega (arith, c .if1 .left))) in
+    (omega (arith, l .loop .inv .1 .0, none), omega (arith, l .loop .inv .1 .1))
 
 pub records-length-spec : {M : Type 1} → statement M
 records-length-spec =

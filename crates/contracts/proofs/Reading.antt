@@ -1,0 +1,171 @@
+-- Every contract of the functions that read templates settles its result and what is lent, each under the function's own name.
+-- p and q say that two results meet it; `past` and `here` lead to the lent buffer among the parameters. Assumes nothing.
+use mathlib.Core.Path.{refl}
+use Rattle.settled.specs.Settled.{Settled}
+use Rattle.settled.proofs.Equal.{same, here}
+use Rattle.contracts.proofs.Told.{told-metadata, told-format}
+use Rattle.refusals.proofs as refusals
+use Rattle.buffer.proofs as buffer
+use Rattle.utf8.proofs as utf8
+use Rattle.characters.proofs as characters
+use Rattle.runs.proofs as runs
+use Rattle.spelling.proofs as spelling
+use Rattle.words.proofs as words
+use Rattle.segments.proofs as segments
+use Rattle.pool.proofs as pool
+use Rattle.naming.proofs as naming
+use Rattle.parts.proofs as parts
+use Rattle.braces.proofs as braces
+use Rattle.lists.proofs as lists
+use Rattle.template.proofs as template
+
+-- ---- refusals
+
+number-of-settled : Settled 0 refusals.number_of.Kinds.ps refusals.number_of.Kinds.r refusals.number_of.Reads.Post
+number-of-settled _ _ _ _ _ _ p q = (same (p .0) (q .0), refl)
+
+length-with-settled : Settled 0 refusals.length_with.Kinds.ps refusals.length_with.Kinds.r refusals.length_with.Reads.Post
+length-with-settled _ _ _ _ _ _ p q = (same p q, refl)
+
+-- ---- buffer
+
+put-settled : Settled 2 buffer.put.Kinds.ps buffer.put.Kinds.r buffer.put.Reads.Post
+put-settled _ _ _ _ _ _ p q = (same (p .0) (q .0), here (same (p .1) (q .1)))
+
+fill-settled : Settled 1 buffer.fill.Kinds.ps buffer.fill.Kinds.r buffer.fill.Reads.Post
+fill-settled _ _ _ _ _ _ p q = (same (p .0) (q .0), here (same (p .1) (q .1)))
+
+least-settled : Settled 0 buffer.numbers.least.Kinds.ps buffer.numbers.least.Kinds.r buffer.numbers.least.Reads.Post
+least-settled _ _ _ _ _ _ p q = (same p q, refl)
+
+-- ---- utf8
+
+is-utf8-settled : Settled 1 utf8.is_utf8.Kinds.ps utf8.is_utf8.Kinds.r utf8.is_utf8.Reads.Post
+is-utf8-settled _ _ _ _ _ _ p q = (same p q, refl)
+
+-- ---- characters
+
+count-chars-settled : Settled 1 characters.count_chars.Kinds.ps characters.count_chars.Kinds.r characters.count_chars.Reads.Post
+count-chars-settled _ _ _ _ _ _ p q = (same p q, refl)
+
+-- ---- runs
+
+stands-at-settled : Settled 1 runs.stands_at.Kinds.ps runs.stands_at.Kinds.r runs.stands_at.Reads.Post
+stands-at-settled _ _ _ _ _ _ p q = (same p q, refl)
+
+letters-end-settled : Settled 1 runs.letters_end.Kinds.ps runs.letters_end.Kinds.r runs.letters_end.Reads.Post
+letters-end-settled _ _ _ _ _ _ p q = (same (p .0) (q .0), refl)
+
+digits-end-settled : Settled 1 runs.digits_end.Kinds.ps runs.digits_end.Kinds.r runs.digits_end.Reads.Post
+digits-end-settled _ _ _ _ _ _ p q = (same (p .0) (q .0), refl)
+
+run-touches-settled : Settled 1 runs.run_touches.Kinds.ps runs.run_touches.Kinds.r runs.run_touches.Reads.Post
+run-touches-settled _ _ _ _ _ _ p q = (same p q, refl)
+
+width-settled : Settled 1 runs.numbers.width.Kinds.ps runs.numbers.width.Kinds.r runs.numbers.width.Reads.Post
+width-settled _ _ _ _ _ _ p q = (same p q, refl)
+
+-- ---- spelling
+
+word-index-settled : Settled 3 spelling.word_index.Kinds.ps spelling.word_index.Kinds.r spelling.word_index.Reads.Post
+word-index-settled _ _ _ _ _ _ p q = (same p q, refl)
+
+is-repeated-f-settled : Settled 1 spelling.is_repeated_f.Kinds.ps spelling.is_repeated_f.Kinds.r spelling.is_repeated_f.Reads.Post
+is-repeated-f-settled _ _ _ _ _ _ p q = (same p q, refl)
+
+-- ---- words
+
+parse-metadata-settled : Settled 1 words.parser.parse_metadata.Kinds.ps words.parser.parse_metadata.Kinds.r words.parser.parse_metadata.Reads.Post
+parse-metadata-settled _ _ _ _ _ _ p q = (told-metadata _ _ (same (p .0) (q .0)), refl)
+
+parse-format-settled : Settled 1 words.parser.parse_format.Kinds.ps words.parser.parse_format.Kinds.r words.parser.parse_format.Reads.Post
+parse-format-settled _ _ _ _ _ _ p q = (told-format _ _ (same (p .0) (q .0)), refl)
+
+-- ---- segments
+
+metadata-number-settled : Settled 0 segments.coding.metadata_number.Kinds.ps segments.coding.metadata_number.Kinds.r segments.coding.metadata_number.Reads.Post
+metadata-number-settled _ _ _ _ _ _ p q = (same (p .0) (q .0), refl)
+
+colour-number-settled : Settled 0 segments.coding.colour_number.Kinds.ps segments.coding.colour_number.Kinds.r segments.coding.colour_number.Reads.Post
+colour-number-settled _ _ _ _ _ _ p q = (same p q, refl)
+
+styles-number-settled : Settled 0 segments.coding.styles_number.Kinds.ps segments.coding.styles_number.Kinds.r segments.coding.styles_number.Reads.Post
+styles-number-settled _ _ _ _ _ _ p q = (same (p .0) (q .0), refl)
+
+width-number-settled : Settled 0 segments.coding.width_number.Kinds.ps segments.coding.width_number.Kinds.r segments.coding.width_number.Reads.Post
+width-number-settled _ _ _ _ _ _ p q = (same (p .0) (q .0), refl)
+
+fill-number-settled : Settled 0 segments.coding.fill_number.Kinds.ps segments.coding.fill_number.Kinds.r segments.coding.fill_number.Reads.Post
+fill-number-settled _ _ _ _ _ _ p q = (same (p .0) (q .0), refl)
+
+kind-of-settled : Settled 0 segments.decoding.kind_of.Kinds.ps segments.decoding.kind_of.Kinds.r segments.decoding.kind_of.Reads.Post
+kind-of-settled _ _ _ _ _ _ p q = (same p q, refl)
+
+colour-of-settled : Settled 0 segments.decoding.colour_of.Kinds.ps segments.decoding.colour_of.Kinds.r segments.decoding.colour_of.Reads.Post
+colour-of-settled _ _ _ _ _ _ p q = (same p q, refl)
+
+styles-of-settled : Settled 0 segments.decoding.styles_of.Kinds.ps segments.decoding.styles_of.Kinds.r segments.decoding.styles_of.Reads.Post
+styles-of-settled _ _ _ _ _ _ p q = (same p q, refl)
+
+width-of-settled : Settled 0 segments.decoding.width_of.Kinds.ps segments.decoding.width_of.Kinds.r segments.decoding.width_of.Reads.Post
+width-of-settled _ _ _ _ _ _ p q = (same p q, refl)
+
+alignment-of-settled : Settled 0 segments.decoding.alignment_of.Kinds.ps segments.decoding.alignment_of.Kinds.r segments.decoding.alignment_of.Reads.Post
+alignment-of-settled _ _ _ _ _ _ p q = (same p q, refl)
+
+padding-of-settled : Settled 0 segments.decoding.padding_of.Kinds.ps segments.decoding.padding_of.Kinds.r segments.decoding.padding_of.Reads.Post
+padding-of-settled _ _ _ _ _ _ p q = (same p q, refl)
+
+-- ---- pool
+
+kind-at-settled : Settled 1 pool.kind_at.Kinds.ps pool.kind_at.Kinds.r pool.kind_at.Reads.Post
+kind-at-settled _ _ _ _ _ _ p q = (same p q, refl)
+
+format-at-settled : Settled 1 pool.format_at.Kinds.ps pool.format_at.Kinds.r pool.format_at.Reads.Post
+format-at-settled _ _ _ _ _ _ p q = (same p q, refl)
+
+back-at-settled : Settled 1 pool.back_at.Kinds.ps pool.back_at.Kinds.r pool.back_at.Reads.Post
+back-at-settled _ _ _ _ _ _ p q = (same (p .0) (q .0), refl)
+
+last-at-settled : Settled 1 pool.last_at.Kinds.ps pool.last_at.Kinds.r pool.last_at.Reads.Post
+last-at-settled _ _ _ _ _ _ p q = (same (p .0) (q .0), refl)
+
+cell-at-settled : Settled 1 pool.cell_at.Kinds.ps pool.cell_at.Kinds.r pool.cell_at.Reads.Post
+cell-at-settled _ _ _ _ _ _ p q = (same p q, refl)
+
+-- ---- naming
+
+names-settled : Settled 1 naming.names.Kinds.ps naming.names.Kinds.r naming.names.Reads.Post
+names-settled _ _ _ _ _ _ p q = (same p q, refl)
+
+-- ---- parts
+
+no-parts-settled : Settled 0 parts.no_parts.Kinds.ps parts.no_parts.Kinds.r parts.no_parts.Reads.Post
+no-parts-settled _ _ _ _ _ _ p q = (same p q, refl)
+
+has-specifier-settled : Settled 0 parts.has_specifier.Kinds.ps parts.has_specifier.Kinds.r parts.has_specifier.Reads.Post
+has-specifier-settled _ _ _ _ _ _ p q = (same p q, refl)
+
+with-specifier-settled : Settled 0 parts.with_specifier.Kinds.ps parts.with_specifier.Kinds.r parts.with_specifier.Reads.Post
+with-specifier-settled _ _ _ _ _ _ p q = (same p q, refl)
+
+with-parameter-settled : Settled 0 parts.with_parameter.Kinds.ps parts.with_parameter.Kinds.r parts.with_parameter.Reads.Post
+with-parameter-settled _ _ _ _ _ _ p q = (same p q, refl)
+
+-- ---- braces
+
+take-until-unbalanced-settled : Settled 1 braces.take_until_unbalanced.Kinds.ps braces.take_until_unbalanced.Kinds.r braces.take_until_unbalanced.Reads.Post
+take-until-unbalanced-settled _ _ _ _ _ _ p q = (same (p .0) (q .0), refl)
+
+-- ---- lists
+
+with-segment-settled : Settled 0 lists.with_segment.Kinds.ps lists.with_segment.Kinds.r lists.with_segment.Reads.Post
+with-segment-settled _ _ _ _ _ _ p q = (same p q, refl)
+
+with-member-settled : Settled 0 lists.with_member.Kinds.ps lists.with_member.Kinds.r lists.with_member.Reads.Post
+with-member-settled _ _ _ _ _ _ p q = (same p q, refl)
+
+-- ---- template
+
+format-has-timestamp-settled : Settled 1 template.format_has_timestamp.Kinds.ps template.format_has_timestamp.Kinds.r template.format_has_timestamp.Reads.Post
+format-has-timestamp-settled _ _ _ _ _ _ p q = (same p q, refl)

@@ -1,0 +1,1 @@
+// That the contracts settle everything: no code.

@@ -1,0 +1,324 @@
+-- Demand 1 holds of every record. Assumes nothing.
+use Prim.Native.Nat.{ℕ}
+use mathlib.Core.Path.{_≡_, refl, ap, sym, subst, _∙_}
+use mathlib.Core.Bool.{Bool, true, false, not, _||_, _&&_}
+use mathlib.Core.List.{List, [], _∷_}
+use mathlib.Core.Logic.{_↔_, _⊎_, inl, inr, ⊎-map, _≢_}
+use native.Mathlib.Omega.{arith}
+use lib.Dec.{eqb, leb}
+use lib.ListN.{length}
+use borrow.Author.Tests.{ltb-true, lt-ltb, leb-true, leb-false, le-leb, lt-leb, eqb-true, eqb-false, eq-eqb, ne-eqb, not-true}
+use Rattle.buffer.specs.Table.{Maybe, none, some}
+use Rattle.utf8.specs.Utf8.{valid}
+use Rattle.refusals.specs.declared.Refusal.{Refusal}
+use Rattle.refusals.specs.declared.Refusal.the-variants.{TemplateTooLong, TemplateNotUtf8, Failure, NoMessage, TooManySegments, TooDeep, TooWide, TooManyF, HalfEscape, NameTouchesLetter, FieldTooLong, FieldNotUtf8, LineTooLong, NotARecord, NotASheet}
+use Rattle.refusals.specs.Numbers.{number}
+use Rattle.record.specs.Layout.{Laid}
+use Rattle.record.specs.Contents.{hasFile, hasLine, hasModule}
+use Rattle.checks.specs.Checks.{badNumbers, absentButThere, badlyMarked, fieldRefusal, orNext, fieldsRefusal, recordRefusal}
+use Rattle.demands.specs.Conditions.{BadlyMarked, FieldLong, FieldBroken, FieldPasses, fieldsOf, First, AllPass, RecordLong, RecordBroken, RecordPasses}
+use Rattle.demands.specs.Demand1.{RecordDemand1}
+use Rattle.demands.proofs.Numbers.{exactly}
+
+-- ---- tests
+
+pub both : (a b : Bool) → (a && b) ≡ true → (a ≡ true) × (b ≡ true)
+both true b e = (refl, e)
+both false b e = (e, cc)
+
+pub both-back : (a b : Bool) → a ≡ true → b ≡ true → (a && b) ≡ true
+both-back a b h g = rw (h, g)
+
+or-left : (a b : Bool) → a ≡ true → (a || b) ≡ true
+or-left a b h = rw h
+
+or-right : (a b : Bool) → b ≡ true → (a || b) ≡ true
+or-right true b h = refl
+or-right false b h = h
+
+one-of : (a b c d e f g : Bool) → (a || b || c || d || e || f || g) ≡ true
+    → (a ≡ true) ⊎ (b ≡ true) ⊎ (c ≡ true) ⊎ (d ≡ true) ⊎ (e ≡ true) ⊎ (f ≡ true) ⊎ (g ≡ true)
+one-of true b c d e f g h = inl refl
+one-of false true c d e f g h = inr (inl refl)
+one-of false false true d e f g h = inr (inr (inl refl))
+one-of false false false true e f g h = inr (inr (inr (inl refl)))
+one-of false false false false true f g h = inr (inr (inr (inr (inl refl))))
+one-of false false false false false true g h = inr (inr (inr (inr (inr (inl refl)))))
+one-of false false false false false false g h = inr (inr (inr (inr (inr (inr h)))))
+
+one-of-back : (a b c d e f g : Bool) → (a ≡ true) ⊎ (b ≡ true) ⊎ (c ≡ true) ⊎ (d ≡ true) ⊎ (e ≡ true) ⊎ (f ≡ true) ⊎ (g ≡ true)
+    → (a || b || c || d || e || f || g) ≡ true
+one-of-back a b c d e f g (inl h) = or-left _ g (or-left _ f (or-left _ e (or-left _ d (or-left _ c (or-left a b h)))))
+one-of-back a b c d e f g (inr (inl h)) = or-left _ g (or-left _ f (or-left _ e (or-left _ d (or-left _ c (or-right a b h)))))
+one-of-back a b c d e f g (inr (inr (inl h))) = or-left _ g (or-left _ f (or-left _ e (or-left _ d (or-right (a || b) c h))))
+one-of-back a b c d e f g (inr (inr (inr (inl h)))) = or-left _ g (or-left _ f (or-left _ e (or-right (a || b || c) d h)))
+one-of-back a b c d e f g (inr (inr (inr (inr (inl h))))) = or-left _ g (or-left _ f (or-right (a || b || c || d) e h))
+one-of-back a b c d e f g (inr (inr (inr (inr (inr (inl h)))))) = or-left _ g (or-right (a || b || c || d || e) f h)
+one-of-back a b c d e f g (inr (inr (inr (inr (inr (inr h)))))) = or-right (a || b || c || d || e || f) g h
+
+-- ---- 14
+
+absent : (present : Bool) (n : ℕ) → absentButThere present n ≡ true → (present ≡ false) × (n ≢ 0)
+unfolding absentButThere
+absent present n e =
+    let b = both (not present) (not (eqb n 0)) e in
+    (not-true present (b .0), eqb-false n 0 (not-true (eqb n 0) (b .1)))
+
+absent-back : (present : Bool) (n : ℕ) → (present ≡ false) × (n ≢ 0) → absentButThere present n ≡ true
+unfolding absentButThere
+absent-back present n h = rw (h .0, ne-eqb n 0 (h .1))
+
+marked : (d : Laid) → badlyMarked d ≡ true → BadlyMarked d
+unfolding badlyMarked badNumbers
+marked d e =
+    ⊎-map (ltb-true 1 (d .source))
+    (⊎-map (ltb-true 5 (d .level))
+    (⊎-map (λ h. let b = both (eqb (d .source) 1) (eqb (d .level) 0) h in (eqb-true (d .source) 1 (b .0), eqb-true (d .level) 0 (b .1)))
+    (⊎-map (ltb-true 7 (d .mask))
+    (⊎-map (absent (hasFile d) (length (d .file)))
+    (⊎-map (absent (hasLine d) (d .line))
+    (absent (hasModule d) (length (d .modulePath))))))))
+    (one-of _ _ _ _ _ _ _ e)
+
+marked-back : (d : Laid) → BadlyMarked d → badlyMarked d ≡ true
+unfolding badlyMarked badNumbers
+marked-back d w =
+    one-of-back _ _ _ _ _ _ _
+    (⊎-map (lt-ltb 1 (d .source))
+    (⊎-map (lt-ltb 5 (d .level))
+    (⊎-map (λ h. both-back (eqb (d .source) 1) (eqb (d .level) 0) (eq-eqb (d .source) 1 (h .0)) (eq-eqb (d .level) 0 (h .1)))
+    (⊎-map (lt-ltb 7 (d .mask))
+    (⊎-map (absent-back (hasFile d) (length (d .file)))
+    (⊎-map (absent-back (hasLine d) (d .line))
+    (absent-back (hasModule d) (length (d .modulePath))))))))
+    w)
+
+unmarked : (d : Laid) → badlyMarked d ≡ false → BadlyMarked d → ⊥
+unmarked d e w = let k = marked-back d w in let z : _≡_ {A = ℕ} 0 1 = cc in omega (arith, z)
+
+unmarked-back : (d : Laid) → (BadlyMarked d → ⊥) → badlyMarked d ≡ false
+unmarked-back d h = by (badlyMarked d) refl
+  where
+    by : (b : Bool) → badlyMarked d ≡ b → badlyMarked d ≡ false
+    by true e = absurd (h (marked d e))
+    by false e = e
+
+-- ---- 11 and 12
+
+-- the refusal of some texts in turn
+firstRefusal : List (List ℕ) → Maybe Refusal
+firstRefusal [] = none
+firstRefusal (x ∷ rest) = orNext (fieldRefusal x) λ _. firstRefusal rest
+
+last-one : (m : Maybe Refusal) → orNext m (λ _. none) ≡ m
+unfolding orNext
+last-one none = refl
+last-one (some r) = refl
+
+in-turn : (d : Laid) → fieldsRefusal d ≡ firstRefusal (fieldsOf d)
+unfolding fieldsRefusal firstRefusal
+in-turn d =
+    ap (λ (m : Maybe Refusal). orNext (fieldRefusal (d .file)) λ _. orNext (fieldRefusal (d .modulePath)) λ _. orNext (fieldRefusal (d .timestamp)) λ _. m)
+    (sym (last-one (fieldRefusal (d .message))))
+
+-- by a field's two tests
+abbrev ByTests : Bool → Bool → Maybe Refusal
+ByTests short utf8 = elim short [ true ↦ elim utf8 [ true ↦ none | false ↦ some FieldNotUtf8 ] | false ↦ some FieldTooLong ]
+
+abbrev FieldsWhen : List (List ℕ) → Maybe Refusal → Type 0
+FieldsWhen l none = AllPass l
+FieldsWhen l (some TemplateTooLong) = ⊥
+FieldsWhen l (some TemplateNotUtf8) = ⊥
+FieldsWhen l (some Failure) = ⊥
+FieldsWhen l (some NoMessage) = ⊥
+FieldsWhen l (some TooManySegments) = ⊥
+FieldsWhen l (some TooDeep) = ⊥
+FieldsWhen l (some TooWide) = ⊥
+FieldsWhen l (some TooManyF) = ⊥
+FieldsWhen l (some HalfEscape) = ⊥
+FieldsWhen l (some NameTouchesLetter) = ⊥
+FieldsWhen l (some FieldTooLong) = First FieldLong l
+FieldsWhen l (some FieldNotUtf8) = First FieldBroken l
+FieldsWhen l (some (LineTooLong n)) = ⊥
+FieldsWhen l (some NotARecord) = ⊥
+FieldsWhen l (some NotASheet) = ⊥
+
+further : (x : List ℕ) (rest : List (List ℕ)) → FieldPasses x → (m : Maybe Refusal) → FieldsWhen rest m → FieldsWhen (x ∷ rest) m
+further x rest p none w = (p, w)
+further x rest p (some FieldTooLong) w = inr (p, w)
+further x rest p (some FieldNotUtf8) w = inr (p, w)
+further x rest p (some TemplateTooLong) w = w
+further x rest p (some TemplateNotUtf8) w = w
+further x rest p (some Failure) w = w
+further x rest p (some NoMessage) w = w
+further x rest p (some TooManySegments) w = w
+further x rest p (some TooDeep) w = w
+further x rest p (some TooWide) w = w
+further x rest p (some TooManyF) w = w
+further x rest p (some HalfEscape) w = w
+further x rest p (some NameTouchesLetter) w = w
+further x rest p (some (LineTooLong n)) w = w
+further x rest p (some NotARecord) w = w
+further x rest p (some NotASheet) w = w
+
+-- one field and what is said of those behind it
+field-when : (x : List ℕ) (rest : List (List ℕ)) (m : Maybe Refusal) → FieldsWhen rest m → FieldsWhen (x ∷ rest) (orNext (fieldRefusal x) λ _. m)
+unfolding fieldRefusal orNext
+field-when x rest m w = by (leb (length x) 4096) refl (valid x) refl
+  where
+    by : (b : Bool) → leb (length x) 4096 ≡ b → (v : Bool) → valid x ≡ v → FieldsWhen (x ∷ rest) (orNext (ByTests b v) λ _. m)
+    by false e v k = inl (leb-false (length x) 4096 e)
+    by true e false k = inl (leb-true (length x) 4096 e, k)
+    by true e true k = further x rest (leb-true (length x) 4096 e, k) m w
+
+fields-when : (l : List (List ℕ)) → FieldsWhen l (firstRefusal l)
+unfolding firstRefusal
+fields-when [] = tt
+fields-when (x ∷ rest) = field-when x rest (firstRefusal rest) (fields-when rest)
+
+passes-field : (x : List ℕ) → FieldPasses x → fieldRefusal x ≡ none
+unfolding fieldRefusal
+passes-field x h = rw (le-leb (length x) 4096 (h .0), h .1, fieldRefusal)
+
+long-field : (x : List ℕ) → FieldLong x → fieldRefusal x ≡ some FieldTooLong
+unfolding fieldRefusal
+long-field x h = rw (lt-leb (length x) 4096 h, fieldRefusal)
+
+broken-field : (x : List ℕ) → FieldBroken x → fieldRefusal x ≡ some FieldNotUtf8
+unfolding fieldRefusal
+broken-field x h = rw (le-leb (length x) 4096 (h .0), h .1, fieldRefusal)
+
+-- where the refusal of the first text is known
+first-is : (x : List ℕ) (rest : List (List ℕ)) (m : Maybe Refusal) → fieldRefusal x ≡ m → firstRefusal (x ∷ rest) ≡ orNext m λ _. firstRefusal rest
+unfolding firstRefusal
+first-is x rest m e = ap (λ (q : Maybe Refusal). orNext q λ _. firstRefusal rest) e
+
+only-pass : (l : List (List ℕ)) → AllPass l → firstRefusal l ≡ none
+unfolding firstRefusal orNext
+only-pass [] w = refl
+only-pass (x ∷ rest) w = first-is x rest none (passes-field x (w .0)) ∙ only-pass rest (w .1)
+
+only-long : (l : List (List ℕ)) → First FieldLong l → firstRefusal l ≡ some FieldTooLong
+unfolding orNext
+only-long [] w = absurd w
+only-long (x ∷ rest) (inl h) = first-is x rest (some FieldTooLong) (long-field x h)
+only-long (x ∷ rest) (inr h) = first-is x rest none (passes-field x (h .0)) ∙ only-long rest (h .1)
+
+only-broken : (l : List (List ℕ)) → First FieldBroken l → firstRefusal l ≡ some FieldNotUtf8
+unfolding orNext
+only-broken [] w = absurd w
+only-broken (x ∷ rest) (inl h) = first-is x rest (some FieldNotUtf8) (broken-field x h)
+only-broken (x ∷ rest) (inr h) = first-is x rest none (passes-field x (h .0)) ∙ only-broken rest (h .1)
+
+-- ---- the table
+
+abbrev pub RecordRefusedWhen : Laid → Refusal → Type 0
+RecordRefusedWhen d TemplateTooLong = ⊥
+RecordRefusedWhen d TemplateNotUtf8 = ⊥
+RecordRefusedWhen d Failure = ⊥
+RecordRefusedWhen d NoMessage = ⊥
+RecordRefusedWhen d TooManySegments = ⊥
+RecordRefusedWhen d TooDeep = ⊥
+RecordRefusedWhen d TooWide = ⊥
+RecordRefusedWhen d TooManyF = ⊥
+RecordRefusedWhen d HalfEscape = ⊥
+RecordRefusedWhen d NameTouchesLetter = ⊥
+RecordRefusedWhen d FieldTooLong = RecordLong d
+RecordRefusedWhen d FieldNotUtf8 = RecordBroken d
+RecordRefusedWhen d (LineTooLong n) = ⊥
+RecordRefusedWhen d NotARecord = BadlyMarked d
+RecordRefusedWhen d NotASheet = ⊥
+
+abbrev When : Laid → Maybe Refusal → Type 0
+When d none = RecordPasses d
+When d (some r) = RecordRefusedWhen d r
+
+module _ (d : Laid) where
+  well-marked : (BadlyMarked d → ⊥) → (m : Maybe Refusal) → FieldsWhen (fieldsOf d) m → When d m
+  well-marked h none w = (h, w)
+  well-marked h (some FieldTooLong) w = (h, w)
+  well-marked h (some FieldNotUtf8) w = (h, w)
+  well-marked h (some TemplateTooLong) w = w
+  well-marked h (some TemplateNotUtf8) w = w
+  well-marked h (some Failure) w = w
+  well-marked h (some NoMessage) w = w
+  well-marked h (some TooManySegments) w = w
+  well-marked h (some TooDeep) w = w
+  well-marked h (some TooWide) w = w
+  well-marked h (some TooManyF) w = w
+  well-marked h (some HalfEscape) w = w
+  well-marked h (some NameTouchesLetter) w = w
+  well-marked h (some (LineTooLong n)) w = w
+  well-marked h (some NotARecord) w = absurd w
+  well-marked h (some NotASheet) w = w
+
+  record-when : When d (recordRefusal d)
+  unfolding recordRefusal
+  record-when = by (badlyMarked d) refl
+    where
+      by : (b : Bool) → badlyMarked d ≡ b → When d (elim b [ true ↦ some NotARecord | false ↦ fieldsRefusal d ])
+      by true e = marked d e
+      by false e = well-marked (unmarked d e) (fieldsRefusal d) (subst (FieldsWhen (fieldsOf d)) (sym (in-turn d)) (fields-when (fieldsOf d)))
+
+  checked : (BadlyMarked d → ⊥) → recordRefusal d ≡ firstRefusal (fieldsOf d)
+  unfolding recordRefusal
+  checked h = (rw (unmarked-back d h, recordRefusal)) ∙ in-turn d
+
+  pub only-refused : (r : Refusal) → RecordRefusedWhen d r → recordRefusal d ≡ some r
+  unfolding recordRefusal
+  only-refused FieldTooLong w = checked (w .0) ∙ only-long (fieldsOf d) (w .1)
+  only-refused FieldNotUtf8 w = checked (w .0) ∙ only-broken (fieldsOf d) (w .1)
+  only-refused NotARecord w = rw (marked-back d w, recordRefusal)
+  only-refused TemplateTooLong w = absurd w
+  only-refused TemplateNotUtf8 w = absurd w
+  only-refused Failure w = absurd w
+  only-refused NoMessage w = absurd w
+  only-refused TooManySegments w = absurd w
+  only-refused TooDeep w = absurd w
+  only-refused TooWide w = absurd w
+  only-refused TooManyF w = absurd w
+  only-refused HalfEscape w = absurd w
+  only-refused NameTouchesLetter w = absurd w
+  only-refused (LineTooLong n) w = absurd w
+  only-refused NotASheet w = absurd w
+
+  only : (m : Maybe Refusal) → When d m → recordRefusal d ≡ m
+  only none w = checked (w .0) ∙ only-pass (fieldsOf d) (w .1)
+  only (some r) w = only-refused r w
+
+  three : (r : Refusal) → RecordRefusedWhen d r → (number r ≡ 11) ⊎ (number r ≡ 12) ⊎ (number r ≡ 14)
+  three FieldTooLong w = inl refl
+  three FieldNotUtf8 w = inr (inl refl)
+  three NotARecord w = inr (inr refl)
+  three TemplateTooLong w = absurd w
+  three TemplateNotUtf8 w = absurd w
+  three Failure w = absurd w
+  three NoMessage w = absurd w
+  three TooManySegments w = absurd w
+  three TooDeep w = absurd w
+  three TooWide w = absurd w
+  three TooManyF w = absurd w
+  three HalfEscape w = absurd w
+  three NameTouchesLetter w = absurd w
+  three (LineTooLong n) w = absurd w
+  three NotASheet w = absurd w
+
+  -- ---- the demand
+
+  exactly-when : (m : Maybe Refusal) → (recordRefusal d ≡ m) ↔ When d m
+  exactly-when m = exactly (When d) (recordRefusal d) record-when m (only m)
+
+  pub refused-when : (r : Refusal) → recordRefusal d ≡ some r → RecordRefusedWhen d r
+  refused-when r e = exactly-when (some r) .0 e
+
+  pub passes-when : (recordRefusal d ≡ none) ↔ RecordPasses d
+  passes-when = exactly-when none
+
+  pub record-demand1 : RecordDemand1 d
+  record-demand1 = record {
+    passes = passes-when;
+    is-14 = exactly-when (some NotARecord);
+    is-11 = exactly-when (some FieldTooLong);
+    is-12 = exactly-when (some FieldNotUtf8);
+    numbered = λ r e. three r (refused-when r e);
+  }

@@ -1,0 +1,72 @@
+-- Demand 3 holds of line calls. Assumes nothing.
+use Prim.Native.Nat.{ℕ, _/_}
+use mathlib.Core.Path.{_≡_, refl, ap, sym, subst, _∙_}
+use mathlib.Core.List.{List}
+use mathlib.Core.Logic.{inl, inr}
+use lib.ListN.{take}
+use Rattle.colour.specs.declared.Settings.{Settings}
+use Rattle.colour.specs.Modes.{off, plain, straight, coloured}
+use Rattle.colour.specs.Sequences.{visible}
+use Rattle.colour.specs.Texts.{Eachs}
+use Rattle.segments.specs.Segments.{LogSegments}
+use Rattle.template.specs.Template.{read, readTemplate}
+use Rattle.record.specs.Layout.{laidOut}
+use Rattle.record.specs.Records.{Record}
+use Rattle.record.specs.Contents.{recordOf}
+use Rattle.fields.specs.Lines.{lineOf}
+use Rattle.settings.specs.Bits.{settingsOf}
+use Rattle.demands.specs.Demand3.{Fills, FallsShort}
+use Rattle.demands.specs.CallDemand3.{Colourless, Answered, shownBy, MadeOf, CallDemand3}
+use Rattle.demands.proofs.Defined.{call-demand2}
+use Rattle.demands.proofs.OfLines.{line-demand3}
+
+-- the three modes by their settings byte
+straight-is : (s : Settings) → settingsOf 3 ≡ straight s
+unfolding settingsOf
+straight-is s = refl
+
+coloured-is : (s : Settings) → settingsOf 1 ≡ coloured s
+unfolding settingsOf
+coloured-is s = refl
+
+plain-is : (settings : ℕ) → Colourless settings → settingsOf settings ≡ plain (settingsOf settings)
+unfolding settingsOf
+plain-is settings (inl e) = rw e
+plain-is settings (inr e) = rw e
+
+module _ (t : List ℕ) (s : LogSegments) (d : List ℕ) where
+  abbrev r : Record
+  r = recordOf (laidOut d)
+
+  -- the line that was answered
+  answered : readTemplate t ≡ read s → (settings : ℕ) (lent left : List ℕ) (answer : ℕ) → Answered t settings d lent left answer
+      → take (answer / 256) left ≡ lineOf (settingsOf settings) t s r
+  answered e settings lent left answer a =
+      let c = call-demand2 t settings d lent .only left answer (a .0) (a .1) in
+      let f = c .1 .template in
+      let same : c .0 ≡ s = cc in
+      c .2 .front ∙ ap (λ (x : LogSegments). lineOf (settingsOf settings) t x r) same
+
+  -- in a mode of which P holds of each
+  made-of : (P : Settings → _ → List ℕ → Type 0) → readTemplate t ≡ read s → (settings : ℕ) (mode : Settings) → settingsOf settings ≡ mode
+      → Eachs (P mode) mode (shownBy t s d)
+      → (lent left : List ℕ) (answer : ℕ) → Answered t settings d lent left answer → MadeOf P settings (shownBy t s d) (take (answer / 256) left)
+  unfolding lineOf
+  made-of P e settings mode m h lent left answer a = record {
+    made = answered e settings lent left answer a;
+    each = subst (λ (x : Settings). Eachs (P x) x (shownBy t s d)) (sym m) h;
+  }
+
+  pub call-demand3 : CallDemand3 t s d
+  call-demand3 = record {
+    same = λ e f g settings p lent₁ lent₂ left₁ left₂ answer₁ answer₂ a b.
+        let x = settingsOf settings in
+        ap visible (answered e 3 lent₁ left₁ answer₁ a ∙ ap (λ (y : Settings). lineOf y t s r) (straight-is x))
+        ∙ line-demand3 x t s r .same f g
+        ∙ ap (λ (y : Settings). lineOf y t s r) (sym (plain-is settings p))
+        ∙ sym (answered e settings lent₂ left₂ answer₂ b);
+    fills-straight = λ e. made-of Fills e 3 (straight off) (straight-is off) (line-demand3 off t s r .fills-straight);
+    fills-plain = λ e settings p.
+        let x = settingsOf settings in made-of Fills e settings (plain x) (plain-is settings p) (line-demand3 x t s r .fills-plain);
+    falls-short = λ e. made-of FallsShort e 1 (coloured off) (coloured-is off) (line-demand3 off t s r .falls-short);
+  }

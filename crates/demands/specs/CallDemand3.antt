@@ -1,0 +1,56 @@
+-- Demand 3, of line calls: "For accepted templates and records without byte 27 in their texts: in straight mode the coloured line with its
+-- colour sequences taken out once, left to right, is byte for byte the plain line, and each group and specifier shown (but a host's message
+-- and a print without level) fills exactly the larger of its width and its visible characters. In the crate's coloured mode a group's
+-- padding falls short by exactly the smaller of the padding due and the bytes inserted." Assumes nothing.
+use Prim.Native.Nat.{ℕ, _/_, _%_}
+use mathlib.Core.Path.{_≡_}
+use mathlib.Core.List.{List}
+use mathlib.Core.Logic.{_⊎_}
+use lib.ListN.{take}
+use Rattle.colour.specs.declared.Settings.{Settings}
+use Rattle.colour.specs.declared.Format.{Format}
+use Rattle.colour.specs.Sequences.{visible}
+use Rattle.colour.specs.Shown.{Members, joined}
+use Rattle.colour.specs.Texts.{Eachs}
+use Rattle.segments.specs.Segments.{LogSegments}
+use Rattle.template.specs.Template.{read, readTemplate}
+use Rattle.record.specs.Layout.{laidOut}
+use Rattle.record.specs.Contents.{recordOf}
+use Rattle.fields.specs.Lines.{recordShown}
+use Rattle.settings.specs.Bits.{settingsOf}
+use Rattle.answer.specs.Answers.{Meets, lineEntry}
+use Rattle.demands.specs.Demand3.{Fills, FallsShort}
+use Rattle.demands.specs.Lines.{FreeSegments, FreeRecord}
+
+-- the settings byte with colour off: "1 colour, 2 straight"
+abbrev pub Colourless : ℕ → Type 0
+Colourless settings = (settings ≡ 0) ⊎ (settings ≡ 2)
+
+-- a line call with these settings answered a line: its bytes are the first `answer / 256` of the buffer it left
+abbrev pub Answered : List ℕ → ℕ → List ℕ → List ℕ → List ℕ → ℕ → Type 0
+Answered t settings d lent left answer = Meets (lineEntry t settings d lent) lent left answer × (answer % 256 ≡ 0)
+
+-- what the line shows of a record, by a template that was read as s
+abbrev pub shownBy : List ℕ → LogSegments → List ℕ → Members
+shownBy t s d = recordShown (recordOf (laidOut d) .level) t (recordOf (laidOut d)) s
+
+-- the line is made of what is shown, and P holds of each group and specifier shown
+pub record MadeOf (P : Settings → Format → List ℕ → Type 0) (settings : ℕ) (m : Members) (x : List ℕ) : Type 0 where
+  pub made : x ≡ joined (settingsOf settings) m
+  pub each : Eachs (P (settingsOf settings)) (settingsOf settings) m
+
+-- of line calls on the template t, read as s, and the record d
+pub record CallDemand3 (t : List ℕ) (s : LogSegments) (d : List ℕ) : Type 0 where
+  -- "in straight mode the coloured line with its colour sequences taken out once, left to right, is byte for byte the plain line": two calls
+  pub same : readTemplate t ≡ read s → FreeSegments t s → FreeRecord (recordOf (laidOut d))
+      → (settings : ℕ) → Colourless settings → (lent₁ lent₂ left₁ left₂ : List ℕ) (answer₁ answer₂ : ℕ)
+      → Answered t 3 d lent₁ left₁ answer₁ → Answered t settings d lent₂ left₂ answer₂
+      → visible (take (answer₁ / 256) left₁) ≡ take (answer₂ / 256) left₂
+  -- "each group and specifier shown .. fills exactly the larger of its width and its visible characters": in straight mode, and with colour off
+  pub fills-straight : readTemplate t ≡ read s → (lent left : List ℕ) (answer : ℕ)
+      → Answered t 3 d lent left answer → MadeOf Fills 3 (shownBy t s d) (take (answer / 256) left)
+  pub fills-plain : readTemplate t ≡ read s → (settings : ℕ) → Colourless settings → (lent left : List ℕ) (answer : ℕ)
+      → Answered t settings d lent left answer → MadeOf Fills settings (shownBy t s d) (take (answer / 256) left)
+  -- "In the crate's coloured mode a group's padding falls short by exactly the smaller of the padding due and the bytes inserted"
+  pub falls-short : readTemplate t ≡ read s → (lent left : List ℕ) (answer : ℕ)
+      → Answered t 1 d lent left answer → MadeOf FallsShort 1 (shownBy t s d) (take (answer / 256) left)

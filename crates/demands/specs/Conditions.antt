@@ -1,0 +1,117 @@
+-- What the refusals are given for: a name for each condition of document 01's table, "Given exactly when". Assumes nothing.
+use Prim.Native.Nat.{ℕ, _≤_, _<_}
+use mathlib.Core.Path.{_≡_}
+use mathlib.Core.Bool.{true, false}
+use mathlib.Core.List.{List, [], _∷_}
+use mathlib.Core.Logic.{_⊎_, _≢_}
+use lib.ListN.{length}
+use Rattle.utf8.specs.Utf8.{valid}
+use Rattle.refusals.specs.declared.Refusal.{Refusal}
+use Rattle.words.specs.Trying as trying
+use Rattle.segments.specs.Segments.{LogSegments, isLog, namedAmong}
+use Rattle.template.specs.Template.{read, reading, readTemplate}
+use Rattle.record.specs.Layout.{Laid, rightSize, laidOut}
+use Rattle.record.specs.Contents.{hasFile, hasLine, hasModule, recordOf}
+use Rattle.fields.specs.Lines.{lineOf}
+use Rattle.settings.specs.Bits.{settingsOf}
+
+-- ---- a template
+
+-- 1: "template over 1,024 bytes"
+abbrev pub TemplateLong : List ℕ → Type 0
+TemplateLong t = 1024 < length t
+
+-- 2: "template not UTF-8", and 1 comes first
+abbrev pub TemplateBroken : List ℕ → Type 0
+TemplateBroken t = (length t ≤ 1024) × (valid t ≡ false)
+
+-- neither: it comes to be read
+abbrev pub Legible : List ℕ → Type 0
+Legible t = (length t ≤ 1024) × (valid t ≡ true)
+
+-- 3 and 5 to 10: reading it stops with the refusal r, "the first met in the crate's own order of trying"
+abbrev pub Stops : List ℕ → Refusal → Type 0
+Stops t r = Legible t × (reading t ≡ trying.refused r)
+
+-- reading it gives the segments s: so many of them, up to a place
+abbrev pub Gives : List ℕ → LogSegments → Type 0
+Gives t s = Legible t × ((made : ℕ) × (place : ℕ) × (reading t ≡ trying.fit (record { segments = s; made = made }) place))
+
+-- 4: "read, but no `{s}` at any depth; the empty template too"
+abbrev pub Wordless : List ℕ → Type 0
+Wordless t = (s : LogSegments) × Gives t s × (namedAmong isLog s ≡ false)
+
+-- none of them: it is accepted, as the segments s
+abbrev pub Accepts : List ℕ → LogSegments → Type 0
+Accepts t s = Gives t s × (namedAmong isLog s ≡ true)
+
+-- ---- a record
+
+-- 14: "source over 1, level over 5, host without level, presence mask over 7, or an absent field with a non-zero length or line"
+abbrev pub BadlyMarked : Laid → Type 0
+BadlyMarked d =
+    (1 < d .source)
+    ⊎ (5 < d .level)
+    ⊎ ((d .source ≡ 1) × (d .level ≡ 0))
+    ⊎ (7 < d .mask)
+    ⊎ ((hasFile d ≡ false) × (length (d .file) ≢ 0))
+    ⊎ ((hasLine d ≡ false) × (d .line ≢ 0))
+    ⊎ ((hasModule d ≡ false) × (length (d .modulePath) ≢ 0))
+
+-- 11: "a field over 4,096 bytes"
+abbrev pub FieldLong : List ℕ → Type 0
+FieldLong x = 4096 < length x
+
+-- 12: "a field not UTF-8", and 11 comes first
+abbrev pub FieldBroken : List ℕ → Type 0
+FieldBroken x = (length x ≤ 4096) × (valid x ≡ false)
+
+-- neither
+abbrev pub FieldPasses : List ℕ → Type 0
+FieldPasses x = (length x ≤ 4096) × (valid x ≡ true)
+
+-- "for file, module, timestamp, message in turn"
+abbrev pub fieldsOf : Laid → List (List ℕ)
+fieldsOf d = d .file ∷ d .modulePath ∷ d .timestamp ∷ d .message ∷ []
+
+-- P holds of one of some fields, and each before it passes
+abbrev pub First : (List ℕ → Type 0) → List (List ℕ) → Type 0
+First P [] = ⊥
+First P (x ∷ rest) = P x ⊎ (FieldPasses x × First P rest)
+
+-- each of some fields passes
+abbrev pub AllPass : List (List ℕ) → Type 0
+AllPass [] = Unit {0}
+AllPass (x ∷ rest) = FieldPasses x × AllPass rest
+
+-- a record that is refused with 11, "Order: .. 14; then .. 11 before 12"
+abbrev pub RecordLong : Laid → Type 0
+RecordLong d = (BadlyMarked d → ⊥) × First FieldLong (fieldsOf d)
+
+-- one that is refused with 12
+abbrev pub RecordBroken : Laid → Type 0
+RecordBroken d = (BadlyMarked d → ⊥) × First FieldBroken (fieldsOf d)
+
+-- one that is accepted
+abbrev pub RecordPasses : Laid → Type 0
+RecordPasses d = (BadlyMarked d → ⊥) × AllPass (fieldsOf d)
+
+-- ---- a call
+
+-- "an unknown settings bit or a record of the wrong size is 15"
+abbrev pub NoCall : ℕ → List ℕ → Type 0
+NoCall settings d = (4 ≤ settings) ⊎ (rightSize d ≡ false)
+
+-- neither
+abbrev pub IsCall : ℕ → List ℕ → Type 0
+IsCall settings d = (settings < 4) × (rightSize d ≡ true)
+
+-- a call whose template is read as s and whose record passes
+pub record AcceptedCall (t : List ℕ) (settings : ℕ) (d : List ℕ) (s : LogSegments) : Type 0 where
+  pub call : IsCall settings d
+  pub template : readTemplate t ≡ read s
+  pub passes : RecordPasses (laidOut d)
+
+-- and its line
+abbrev pub callLine : List ℕ → ℕ → List ℕ → LogSegments → List ℕ
+callLine t settings d s = lineOf (settingsOf settings) t s (recordOf (laidOut d))

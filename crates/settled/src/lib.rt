@@ -1,0 +1,1 @@
+// What it means that a contract settles everything: no code.
