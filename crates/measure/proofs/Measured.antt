@@ -34,12 +34,6 @@ grown-append a s t =
 pub grown-nil : (a : Measure) → grown a [] ≡ a
 grown-nil a = measure-eq (a .scan) (a .scan) (a .chars + 0) (a .chars) (a .len + 0) (a .len) refl (add-zero (a .chars)) (add-zero (a .len))
 
-pub len-grown : (a : Measure) (s : List ℕ) → grown a s .len ≡ a .len + length s
-len-grown a s = refl
-
-pub len-more : (a : Measure) (n : ℕ) → more a n .len ≡ a .len + n
-len-more a n = refl
-
 -- ---- small numbers
 
 -- a byte that goes on with a sequence or ends one is a character

@@ -21,7 +21,7 @@ returns c =
     let p = c .before .before .before .before .before .before .before in
     let k = c .before .before .before .session in
     let o = sessionEntry (p .args .d .now) (p .args .out .now) in
-    record { returned = c .pack .ensures ∙ ap packedAnswer (k .ensures .0) ∙ packed-answer o; buffer = k .ensures .1 .0 }
+    record { returned = c .pack .ensures ∙ ap packedAnswer (k .ensures .0) ∙ packed-answer o; buffer = search needs }
 
 pub pralakuon-session-spec : {M : Type 1} → statement M
 pralakuon-session-spec = tie.close (tie.spec session-requires pack-requires same-length returns)
