@@ -7,6 +7,9 @@ ported=target/port/release/pralakuon-oracle
 
 build_port() {
   [ -f "$archive" ] || fail 'no archive; run host/archive first'
+  [ -f target/sources ] || fail 'not built; run oracle/setup first'
+  PRALAKUON_CRATE_SOURCES=$(cat target/sources)
+  export PRALAKUON_CRATE_SOURCES
   # cargo reads .cargo/config.toml from the current directory upwards.
   cargo build --release --offline --quiet --features port --target-dir target/port || fail 'the build failed; run oracle/setup first'
 }

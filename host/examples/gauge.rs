@@ -1,96 +1,129 @@
-//! Draws docs/gauge.svg: what is visible of samples/wall.sheet in the crate's colour, plain and in straight colour, and what
-//! each gives where the gauge's column is cut by position. host/picture writes the file.
+//! Draws docs/gauge.svg: a line of samples/wall.sheet as it stood in last year's plain record, and below it the same line this year in
+//! the crate's colour and in straight colour, with the gauge's column cut by position. host/picture writes the file.
 
-use pralakuon::{line, RawRecord, Settings, Sheet};
+use pralakuon::{line, visible_str, Refusal, Settings, Sheet};
 use std::error::Error;
 use std::fmt::Write;
 use std::ops::Range;
 
 /// The gauge's column in the plain record.
-const GAUGE: Range<usize> = 51..59;
+const GAUGE: Range<usize> = 55..63;
 
 /// Characters of a line that are shown.
-const SHOWN: usize = 60;
+const SHOWN: usize = 64;
 
-/// Pixels from one character to the next, and from one line to the next.
-const ADVANCE: f64 = 6.6;
-const LEADING: usize = 18;
+/// Pixels: from one character to the next, from one row to the next, from the left edge.
+const ADVANCE: f64 = 12.0;
+const ROW: f64 = 56.0;
+const MARGIN: f64 = 16.0;
 
-const PANELS: [(&str, Settings); 3] = [
-    ("the crate's colour, taken out", Settings::CRATE_COLOUR),
-    ("plain", Settings::PLAIN),
-    ("straight colour, taken out", Settings::STRAIGHT_COLOUR),
+const PANELS: [(&str, Settings); 2] = [
+    ("this year, in the crate's colour", Settings::CRATE_COLOUR),
+    ("this year, in straight colour", Settings::STRAIGHT_COLOUR),
 ];
 
 fn main() -> Result<(), Box<dyn Error>> {
     let bytes = std::fs::read(concat!(env!("CARGO_MANIFEST_DIR"), "/../samples/wall.sheet"))?;
     let sheet = Sheet::read(&bytes)?;
-    // A print is its message alone and has no columns; the host's lines show no time, and have others.
-    let in_columns = |record: &&RawRecord| record.source == RawRecord::DEVICE && record.level != 0;
-    let records: Vec<_> = sheet.records.iter().filter(in_columns).collect();
-    let panel = SHOWN as f64 * ADVANCE + 24.0;
-    let (width, height) = (3.0 * panel, (2 * records.len() + 5) * LEADING);
+    let shown = |settings| -> Result<Vec<Glyph>, Box<dyn Error>> {
+        let mut out = [0; 1024];
+        let length = line(sheet.template, settings, sheet.records[0], &mut out)?;
+        Ok(glyphs(std::str::from_utf8(&out[..length])?)?)
+    };
+    let plain = shown(Settings::PLAIN)?;
+    let right = cut(&plain);
+
+    let (width, height) = (SHOWN as f64 * ADVANCE + 2.0 * MARGIN, 4.5 * ROW + 12.0);
     let mut svg = format!(
-        "<svg xmlns=\"http://www.w3.org/2000/svg\" viewBox=\"0 0 {width:.0} {height}\" font-family=\"monospace\" font-size=\"11\">\n\
-         <rect width=\"100%\" height=\"100%\" fill=\"#fff\"/>\n"
+        "<svg xmlns=\"http://www.w3.org/2000/svg\" viewBox=\"0 0 {width:.0} {height:.0}\" role=\"img\">\n\
+         <title>A column cut by position</title>\n\
+         <desc>The same record twice, last year's plain line above this year's. In the crate's colour this year's line stands two \
+         places further left, and the gauge's column is cut as {}. In straight colour it is cut as {right}, as last year.</desc>\n\
+         <style>text {{ white-space: pre }} .line {{ font: 20px monospace }} .word {{ font: 16px sans-serif; fill: #444 }}</style>\n\
+         <rect width=\"100%\" height=\"100%\" fill=\"#fff\"/>\n",
+        cut(&shown(Settings::CRATE_COLOUR)?)
     );
-    for (i, (title, settings)) in PANELS.into_iter().enumerate() {
-        let lines = records.iter().map(|record| shown(&sheet, settings, record)).collect::<Result<Vec<_>, _>>()?;
-        writeln!(svg, "<g transform=\"translate({:.1} {LEADING})\">", i as f64 * panel + 12.0)?;
-        draw(&mut svg, title, &lines)?;
-        writeln!(svg, "</g>")?;
+    let mut top = 4.0;
+    for (title, settings) in PANELS {
+        row(&mut svg, top, "last year, plain", &plain, &right)?;
+        row(&mut svg, top + ROW, title, &shown(settings)?, &right)?;
+        top += 2.5 * ROW;
     }
     println!("{svg}</svg>");
     Ok(())
 }
 
-/// What is visible of a record's line.
-fn shown(sheet: &Sheet, settings: Settings, record: &RawRecord) -> Result<Vec<char>, Box<dyn Error>> {
-    let mut out = [0; 1024];
-    let length = line(sheet.template, settings, *record, &mut out)?;
-    Ok(visible(std::str::from_utf8(&out[..length])?).chars().collect())
+/// A character that is seen, with the look that the codes before it gave it.
+struct Glyph {
+    seen: char,
+    look: String,
 }
 
-/// The sample has no byte 27 in its texts, so each is the beginning of a colour sequence, which ends with `m`.
-fn visible(line: &str) -> String {
-    let mut parts = line.split('\x1b');
-    let before = parts.next().into_iter();
-    before.chain(parts.map(|part| part.split_once('m').map_or(part, |(_, text)| text))).collect()
+/// The characters that are seen of a line. The sample has no byte 27 in its texts, so each is the beginning of a colour sequence.
+fn glyphs(line: &str) -> Result<Vec<Glyph>, Refusal> {
+    let mut glyphs = Vec::new();
+    let mut look = String::new();
+    let ends = line.match_indices('\x1b').map(|(at, _)| at).chain([line.len()]);
+    let mut start = 0;
+    for end in ends {
+        let part = &line[start..end];
+        let seen = visible_str(part)?;
+        change(&mut look, &part[..part.len() - seen.len()]);
+        glyphs.extend(seen.chars().map(|seen| Glyph { seen, look: look.clone() }));
+        start = end;
+    }
+    Ok(glyphs)
 }
 
-/// A panel: the lines with the place of the gauge's column, and below them what is cut there.
-fn draw(svg: &mut String, title: &str, lines: &[Vec<char>]) -> std::fmt::Result {
-    writeln!(svg, "<text font-weight=\"bold\">{title}</text>")?;
-    let (left, breadth) = (GAUGE.start as f64 * ADVANCE, GAUGE.len() as f64 * ADVANCE);
-    let depth = lines.len() * LEADING + 4;
+/// What a colour sequence makes of a look.
+fn change(look: &mut String, sequence: &str) {
+    for code in sequence.split(['\x1b', '[', ';', 'm']).filter(|code| !code.is_empty()) {
+        match code {
+            "0" => look.clear(),
+            "1" => look.push_str("font-weight:bold;"),
+            "2" => look.push_str("opacity:.6;"),
+            "32" => look.push_str("fill:#080;"),
+            code => panic!("the sample's first record has the code {code}"),
+        }
+    }
+}
+
+/// What is cut out of a line at the gauge's column.
+fn cut(glyphs: &[Glyph]) -> String {
+    glyphs[GAUGE].iter().map(|glyph| glyph.seen).collect()
+}
+
+/// A line with the gauge's column, green where what is cut is right and red where it is not, and what is cut beside the title.
+fn row(svg: &mut String, top: f64, title: &str, glyphs: &[Glyph], right: &str) -> std::fmt::Result {
+    let cut = cut(glyphs);
+    let (ground, ink) = if cut == right { ("#bfe8bf", "#060") } else { ("#ffc4c4", "#b00") };
+    let (left, breadth) = (MARGIN + GAUGE.start as f64 * ADVANCE, GAUGE.len() as f64 * ADVANCE);
     writeln!(
         svg,
-        "<rect x=\"{left:.1}\" y=\"{}\" width=\"{breadth:.1}\" height=\"{depth}\" fill=\"#fd6\"/>",
-        LEADING - 12
+        "<rect x=\"{left}\" y=\"{}\" width=\"{breadth}\" height=\"28\" fill=\"{ground}\" stroke=\"{ink}\" stroke-width=\"2\"/>",
+        top + 24.0
     )?;
-    for (i, line) in lines.iter().enumerate() {
-        text(svg, (i + 1) * LEADING, &line[..SHOWN.min(line.len())])?;
-    }
-    let below = (lines.len() + 2) * LEADING;
-    writeln!(svg, "<text y=\"{below}\">characters {} to {} of each:</text>", GAUGE.start, GAUGE.end - 1)?;
-    for (i, line) in lines.iter().enumerate() {
-        text(svg, below + (i + 1) * LEADING, &line[GAUGE.start.min(line.len())..GAUGE.end.min(line.len())])?;
+    writeln!(
+        svg,
+        "<text class=\"word\" x=\"{MARGIN}\" y=\"{y}\">{title}</text>\
+         <text class=\"line\" x=\"{left}\" y=\"{y}\" style=\"fill:{ink};font-weight:bold\">{}</text>",
+        escaped(&cut),
+        y = top + 18.0
+    )?;
+    // each character at its own place, so that columns stand whatever the font
+    for (i, glyph) in glyphs.iter().enumerate().take(SHOWN).filter(|(_, glyph)| glyph.seen != ' ') {
+        let x = MARGIN + (i as f64 + 0.5) * ADVANCE;
+        let style = if glyph.look.is_empty() { String::new() } else { format!(" style=\"{}\"", glyph.look) };
+        writeln!(
+            svg,
+            "<text class=\"line\" text-anchor=\"middle\" x=\"{x}\" y=\"{}\"{style}>{}</text>",
+            top + 45.0,
+            escaped(&glyph.seen.to_string())
+        )?;
     }
     Ok(())
 }
 
-/// Each character at its own place, so that columns stand whatever the font.
-fn text(svg: &mut String, y: usize, characters: &[char]) -> std::fmt::Result {
-    let places: Vec<_> = (0..characters.len()).map(|i| format!("{:.1}", i as f64 * ADVANCE)).collect();
-    let escaped: String = characters.iter().map(|c| escape(*c)).collect();
-    writeln!(svg, "<text xml:space=\"preserve\" y=\"{y}\" x=\"{}\">{escaped}</text>", places.join(" "))
-}
-
-fn escape(c: char) -> String {
-    match c {
-        '<' => "&lt;".to_string(),
-        '>' => "&gt;".to_string(),
-        '&' => "&amp;".to_string(),
-        c => c.to_string(),
-    }
+fn escaped(text: &str) -> String {
+    text.replace('&', "&amp;").replace('<', "&lt;").replace('>', "&gt;")
 }

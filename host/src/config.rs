@@ -1,7 +1,7 @@
 //! Which template and which settings a formatter works by.
 
 use crate::template::{builtin, Style};
-use crate::Settings;
+use crate::{Refusal, Settings};
 
 /// The template: one of the built-in ones, or one's own.
 ///
@@ -31,6 +31,7 @@ pub enum FormatterFormat<'a> {
 
 impl FormatterFormat<'static> {
     /// The built-in format of that name, if there is one.
+    #[must_use]
     pub fn from_string(s: &str, with_location: bool) -> Option<FormatterFormat<'static>> {
         match s {
             "default" => Some(FormatterFormat::Default { with_location }),
@@ -64,14 +65,15 @@ impl Default for FormatterFormat<'_> {
 /// ```
 /// use pralakuon::{Formatter, FormatterConfig, FormatterFormat, Level, Record, Settings};
 ///
-/// let config = FormatterConfig { format: FormatterFormat::OneLine { with_location: false }, ..FormatterConfig::default() }
+/// let config = FormatterConfig::new(FormatterFormat::OneLine { with_location: false })
 ///     .with_timestamp()
 ///     .with_settings(Settings::PLAIN);
-/// let record = Record { timestamp: "0.5", ..Record::new(Level::Info, "hello") };
+/// let record = Record::new(Level::Info, "hello").with_timestamp("0.5");
 /// assert_eq!(Formatter::new(config)?.format(&record)?, "0.5 [INFO ] hello");
 /// # Ok::<(), pralakuon::Refusal>(())
 /// ```
 #[derive(Clone, Copy, Debug, Default, PartialEq, Eq, Hash)]
+#[non_exhaustive]
 pub struct FormatterConfig<'a> {
     /// The template.
     pub format: FormatterFormat<'a>,
@@ -82,6 +84,12 @@ pub struct FormatterConfig<'a> {
 }
 
 impl<'a> FormatterConfig<'a> {
+    /// By this format, without the time and without colour.
+    #[must_use]
+    pub fn new(format: FormatterFormat<'a>) -> Self {
+        FormatterConfig { format, ..FormatterConfig::default() }
+    }
+
     /// By a template of one's own, or by the name of a built-in one, which then shows the location.
     ///
     /// ```
@@ -90,18 +98,20 @@ impl<'a> FormatterConfig<'a> {
     /// assert_eq!(FormatterConfig::custom("[{L}] {s}").format, FormatterFormat::Custom("[{L}] {s}"));
     /// assert_eq!(FormatterConfig::custom("oneline").format, FormatterFormat::OneLine { with_location: true });
     /// ```
+    #[must_use]
     pub fn custom(format: &'a str) -> Self {
-        let format = FormatterFormat::from_string(format, true).unwrap_or(FormatterFormat::Custom(format));
-        FormatterConfig { format, ..FormatterConfig::default() }
+        FormatterConfig::new(FormatterFormat::from_string(format, true).unwrap_or(FormatterFormat::Custom(format)))
     }
 
     /// With the time, for built-in templates.
+    #[must_use]
     pub fn with_timestamp(mut self) -> Self {
         self.is_timestamp_available = true;
         self
     }
 
     /// With the location, for built-in templates.
+    #[must_use]
     pub fn with_location(mut self) -> Self {
         match &mut self.format {
             FormatterFormat::Default { with_location } | FormatterFormat::OneLine { with_location } => {
@@ -113,18 +123,19 @@ impl<'a> FormatterConfig<'a> {
     }
 
     /// With these settings.
+    #[must_use]
     pub fn with_settings(mut self, settings: Settings) -> Self {
         self.settings = settings;
         self
     }
 
     /// The template's text, for the host's records or for the device's.
-    pub(crate) fn template(&self, host: bool) -> String {
+    pub(crate) fn template(&self, host: bool) -> Result<String, Refusal> {
         let timestamp = self.is_timestamp_available;
         match self.format {
             FormatterFormat::Default { with_location } => builtin(Style::Default, with_location, timestamp, host),
             FormatterFormat::OneLine { with_location } => builtin(Style::OneLine, with_location, timestamp, host),
-            FormatterFormat::Custom(template) => template.to_string(),
+            FormatterFormat::Custom(template) => Ok(template.to_string()),
         }
     }
 }

@@ -10,14 +10,15 @@
 //! use pralakuon::{Formatter, FormatterConfig, Level, Record};
 //!
 //! let formatter = Formatter::new(FormatterConfig::custom("{t} [{L}] {s}"))?;
-//! let record = Record { timestamp: "0.002500", ..Record::new(Level::Info, "wall B3 crack 0.412 mm") };
+//! let record = Record::new(Level::Info, "wall B3 crack 0.412 mm").with_timestamp("0.002500");
 //! assert_eq!(formatter.format(&record)?, "0.002500 [INFO ] wall B3 crack 0.412 mm");
 //! # Ok::<(), pralakuon::Refusal>(())
 //! ```
 //!
 //! The template is checked once, by [`Formatter::new`]. Where there is no line there is a [`Refusal`], which says why.
-//! [`Formatter::format_into`] writes into a lent buffer and allocates nothing. The host's own records have a type of
-//! their own, [`HostRecord`], and a [`HostFormatter`].
+//! [`Formatter::append`] puts lines into a text that is used again, [`Formatter::write_line`] into a file or the like,
+//! and [`Formatter::format_into`] into a lent buffer. The host's own records have a type of their own, [`HostRecord`],
+//! and a [`HostFormatter`].
 //!
 //! # Straight columns
 //!
@@ -26,19 +27,13 @@
 //! colour, so that a coloured line without its colour is the plain line.
 //!
 //! ```
-//! use pralakuon::{Formatter, FormatterConfig, Level, Record, Refusal, Settings};
+//! use pralakuon::{visible_str, Formatter, FormatterConfig, Level, Record, Refusal, Settings};
 //!
-//! // What is seen of a line: all but its colour sequences, from ESC to `m`.
-//! fn visible(line: &str) -> String {
-//!     let mut parts = line.split('\x1b');
-//!     let before = parts.next().into_iter();
-//!     before.chain(parts.map(|part| part.split_once('m').map_or(part, |(_, text)| text))).collect()
-//! }
-//!
+//! // What is seen of the line: all but its colour sequences.
 //! fn shown(settings: Settings) -> Result<String, Refusal> {
 //!     let config = FormatterConfig::custom("{[{L}]%bold%<9}|{s}").with_settings(settings);
 //!     let line = Formatter::new(config)?.format(&Record::new(Level::Error, "hello"))?;
-//!     Ok(visible(&line))
+//!     visible_str(&line)
 //! }
 //!
 //! assert_eq!(shown(Settings::PLAIN)?, "[ERROR]  |hello");
@@ -50,7 +45,7 @@
 //! # Session sheets
 //!
 //! A sheet holds a template and records, so that the same lines can be made of them years later. [`SheetWriter`] writes
-//! one, [`Sheet`] reads one, and [`session()`] gives all its lines.
+//! one, [`Sheet`] reads one and gives its lines one by one, and [`session()`] gives all of them at once.
 //!
 //! ```
 //! use pralakuon::{session, Formatter, FormatterConfig, HostRecord, Level, Record, SheetWriter};
@@ -60,13 +55,25 @@
 //! sheet.push(&Record::new(Level::Warn, "wheel slipped"))?;
 //! sheet.push(&HostRecord::new(Level::Debug, "sheet closed"))?;
 //! assert_eq!(session(&sheet.finish())?, b"[WARN ] wheel slipped\n[DEBUG] sheet closed\n");
-//! # Ok::<(), pralakuon::Refusal>(())
+//! # Ok::<(), Box<dyn std::error::Error>>(())
 //! ```
+//!
+//! # Versions
+//!
+//! Before each call the [version](archive_version) of the linked archive is compared with that of this crate: major
+//! and minor number must be the same. Every function that would call another archive answers
+//! [`Refusal::OtherVersion`] instead.
+//!
+//! Types that may grow are `#[non_exhaustive]`: records and settings are made by `new` and the `with_` methods, and a
+//! `match` on a [`Refusal`] needs an arm for others.
 
 #![deny(missing_docs)]
 #![deny(unsafe_code)]
 #![deny(unsafe_op_in_unsafe_fn)]
+#![warn(clippy::missing_errors_doc, clippy::must_use_candidate, clippy::return_self_not_must_use)]
+#![warn(clippy::undocumented_unsafe_blocks)]
 
+mod answer;
 mod bytes;
 mod config;
 // The one place where the archive is called.
@@ -79,22 +86,27 @@ mod raw;
 mod record;
 mod refusal;
 mod room;
+mod scratch;
 mod session;
 mod settings;
 mod sheet;
 mod template;
+mod version;
+mod visible;
 
 pub use config::{FormatterConfig, FormatterFormat};
 pub use formatter::{Formatter, HostFormatter};
-pub use level::Level;
+pub use level::{Level, UnknownLevel};
 pub use line::line;
 pub use raw::RawRecord;
 pub use record::{HostRecord, Record};
 pub use refusal::Refusal;
 pub use session::{session, session_into};
 pub use settings::Settings;
-pub use sheet::{Sheet, SheetWriter};
+pub use sheet::{Sheet, SheetFull, SheetLines, SheetWriter};
 pub use template::{check, names_timestamp};
+pub use version::{archive_version, Version};
+pub use visible::{visible, visible_into, visible_str};
 
 // So that the README's example is run too.
 #[cfg(doctest)]

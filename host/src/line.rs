@@ -1,13 +1,14 @@
 //! The line of one record, in a lent buffer.
 
-use crate::raw::CUT_SIZE;
-use crate::refusal::settle;
+use crate::answer::asked;
+use crate::scratch::{lent, RECORD};
 use crate::{entries, RawRecord, Refusal, Settings};
 
 /// Writes the line of a record, by a template of any bytes, to the front of `out` and gives its length.
 ///
-/// Nothing is allocated. A refusal leaves `out` as it was, and a line changes only its own bytes. Any kind of record can
-/// be given, so this is also the call for the records of a [`Sheet`](crate::Sheet).
+/// Nothing is allocated but the room in which records are laid out, which each thread makes once and keeps. A line
+/// changes only its own bytes. Any kind of record can be given, so this is also the call for the records of a
+/// [`Sheet`](crate::Sheet).
 ///
 /// ```
 /// use pralakuon::{line, Level, Record, Refusal, Settings};
@@ -21,13 +22,19 @@ use crate::{entries, RawRecord, Refusal, Settings};
 /// assert_eq!(short, Err(Refusal::LineTooLong { needed: 13 }));
 /// # Ok::<(), Refusal>(())
 /// ```
+///
+/// # Errors
+/// Refusals 1 to 14: what is wrong with the template, the record or the room. A refusal leaves `out` as it was.
 pub fn line<'r>(
     template: &[u8],
     settings: Settings,
     record: impl Into<RawRecord<'r>>,
     out: &mut [u8],
 ) -> Result<usize, Refusal> {
-    let mut room = [0; CUT_SIZE];
-    let laid_out = record.into().cut().lay_out(&mut room);
-    settle(entries::line(template, settings.byte(), laid_out, out))
+    let record = record.into().cut();
+    lent(&RECORD, |room| {
+        room.clear();
+        record.lay_out(room);
+        asked(|| entries::line(template, settings.byte(), room, out))
+    })
 }

@@ -8,22 +8,28 @@ const HEAD: usize = 3 + 4 + 4 * 2;
 
 /// One byte more than a field may have. A text cut here is refused as the whole would be, with 11, and it has a length
 /// that the layout can hold.
-const CUT: usize = 4_096 + 1;
-
-/// The most bytes that a record with cut texts is laid out in.
-pub(crate) const CUT_SIZE: usize = HEAD + 4 * CUT;
+const CUT: usize = Record::LONGEST_TEXT + 1;
 
 /// A record by its numbers and bytes, as a session sheet holds it. Nothing of it is checked: what is wrong with it, the
 /// line call says.
 ///
+/// A file, a line or a module that is given is marked as present in the mask. Whoever wants another mask gives it last,
+/// with [`with_mask`](RawRecord::with_mask), which takes any byte as it is.
+///
 /// ```
 /// use pralakuon::{line, RawRecord, Refusal, Settings};
 ///
-/// // A host's record must have a level.
-/// let record = RawRecord { source: RawRecord::HOST, level: 0, message: b"hello", ..RawRecord::default() };
-/// assert_eq!(line(b"{s}", Settings::PLAIN, record, &mut [0; 80]), Err(Refusal::NotARecord));
+/// let record = RawRecord::new().with_level(3).with_file(b"gauge.rs").with_message(b"hello");
+/// assert_eq!(record.mask, RawRecord::FILE);
+/// assert_eq!(line(b"{F}: {s}", Settings::PLAIN, record, &mut [0; 80]), Ok(15));
+///
+/// // A host's record must have a level, and a file that is there must be marked.
+/// for wrong in [record.with_source(RawRecord::HOST).with_level(0), record.with_mask(0)] {
+///     assert_eq!(line(b"{s}", Settings::PLAIN, wrong, &mut [0; 80]), Err(Refusal::NotARecord));
+/// }
 /// ```
 #[derive(Clone, Copy, Debug, Default, PartialEq, Eq, Hash)]
+#[non_exhaustive]
 pub struct RawRecord<'a> {
     /// [`DEVICE`](RawRecord::DEVICE) or [`HOST`](RawRecord::HOST).
     pub source: u8,
@@ -55,19 +61,83 @@ impl<'a> RawRecord<'a> {
     /// In the mask: there is a module.
     pub const MODULE: u8 = 4;
 
-    /// What records of the device and of the host have in common.
-    fn placed(file: Option<&'a str>, line: Option<u32>, module_path: Option<&'a str>, message: &'a str) -> Self {
-        let bit = |bit, present| if present { bit } else { 0 };
-        RawRecord {
-            mask: bit(Self::FILE, file.is_some())
-                | bit(Self::LINE, line.is_some())
-                | bit(Self::MODULE, module_path.is_some()),
-            line: line.unwrap_or(0),
-            file: file.unwrap_or("").as_bytes(),
-            module_path: module_path.unwrap_or("").as_bytes(),
-            message: message.as_bytes(),
-            ..RawRecord::default()
+    /// A print of the device with an empty message.
+    #[must_use]
+    pub fn new() -> Self {
+        RawRecord::default()
+    }
+
+    /// With this source.
+    #[must_use]
+    pub fn with_source(mut self, source: u8) -> Self {
+        self.source = source;
+        self
+    }
+
+    /// With a level's number, or 0 for none.
+    #[must_use]
+    pub fn with_level(mut self, level: u8) -> Self {
+        self.level = level;
+        self
+    }
+
+    /// With a file, which is marked as present.
+    #[must_use]
+    pub fn with_file(mut self, file: &'a [u8]) -> Self {
+        self.file = file;
+        self.mask |= Self::FILE;
+        self
+    }
+
+    /// With a line, which is marked as present.
+    #[must_use]
+    pub fn with_line(mut self, line: u32) -> Self {
+        self.line = line;
+        self.mask |= Self::LINE;
+        self
+    }
+
+    /// With a module, which is marked as present.
+    #[must_use]
+    pub fn with_module_path(mut self, module_path: &'a [u8]) -> Self {
+        self.module_path = module_path;
+        self.mask |= Self::MODULE;
+        self
+    }
+
+    /// With this timestamp.
+    #[must_use]
+    pub fn with_timestamp(mut self, timestamp: &'a [u8]) -> Self {
+        self.timestamp = timestamp;
+        self
+    }
+
+    /// With this message.
+    #[must_use]
+    pub fn with_message(mut self, message: &'a [u8]) -> Self {
+        self.message = message;
+        self
+    }
+
+    /// With this mask in place of what was marked before, whatever is present.
+    #[must_use]
+    pub fn with_mask(mut self, mask: u8) -> Self {
+        self.mask = mask;
+        self
+    }
+
+    /// With what is known of a place.
+    fn placed(mut self, file: Option<&'a str>, line: Option<u32>, module_path: Option<&'a str>) -> Self {
+        if let Some(file) = file {
+            self = self.with_file(file.as_bytes());
         }
+        if let Some(line) = line {
+            self = self.with_line(line);
+        }
+        if let Some(module_path) = module_path {
+            self = self.with_module_path(module_path.as_bytes());
+        }
+        self
     }
 
     fn texts(&self) -> [&'a [u8]; 4] {
@@ -102,15 +172,12 @@ impl<'a> RawRecord<'a> {
         head
     }
 
-    /// Lays it out at the front of `out`, which has room for it, and gives those bytes.
-    pub(crate) fn lay_out<'o>(&self, out: &'o mut [u8]) -> &'o [u8] {
-        let head = self.head();
-        let mut end = 0;
-        for part in [&head[..]].into_iter().chain(self.texts()) {
-            out[end..end + part.len()].copy_from_slice(part);
-            end += part.len();
+    /// Lays it out at the end of `out`.
+    pub(crate) fn lay_out(&self, out: &mut Vec<u8>) {
+        out.extend_from_slice(&self.head());
+        for text in self.texts() {
+            out.extend_from_slice(text);
         }
-        &out[..end]
     }
 
     /// None for a body of the wrong size.
@@ -136,22 +203,21 @@ impl<'a> RawRecord<'a> {
 
 impl<'a> From<&Record<'a>> for RawRecord<'a> {
     fn from(record: &Record<'a>) -> Self {
-        RawRecord {
-            source: RawRecord::DEVICE,
-            level: record.level.map_or(0, Level::number),
-            timestamp: record.timestamp.as_bytes(),
-            ..RawRecord::placed(record.file, record.line, record.module_path, record.message)
-        }
+        RawRecord::new()
+            .with_level(record.level.map_or(0, Level::number))
+            .placed(record.file, record.line, record.module_path)
+            .with_timestamp(record.timestamp.as_bytes())
+            .with_message(record.message.as_bytes())
     }
 }
 
 impl<'a> From<&HostRecord<'a>> for RawRecord<'a> {
     fn from(record: &HostRecord<'a>) -> Self {
-        RawRecord {
-            source: RawRecord::HOST,
-            level: record.level.number(),
-            ..RawRecord::placed(record.file, record.line, record.module_path, record.message)
-        }
+        RawRecord::new()
+            .with_source(RawRecord::HOST)
+            .with_level(record.level.number())
+            .placed(record.file, record.line, record.module_path)
+            .with_message(record.message.as_bytes())
     }
 }
 

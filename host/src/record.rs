@@ -2,20 +2,54 @@
 
 use crate::Level;
 
+/// The builders that both kinds of record have.
+macro_rules! shared_builders {
+    () => {
+        /// With the path of the source file: a text, or an `Option` of one.
+        #[must_use]
+        pub fn with_file(mut self, file: impl Into<Option<&'a str>>) -> Self {
+            self.file = file.into();
+            self
+        }
+
+        /// With the line in that file: a number, or an `Option` of one.
+        #[must_use]
+        pub fn with_line(mut self, line: impl Into<Option<u32>>) -> Self {
+            self.line = line.into();
+            self
+        }
+
+        /// With the module: a text, or an `Option` of one.
+        #[must_use]
+        pub fn with_module_path(mut self, module_path: impl Into<Option<&'a str>>) -> Self {
+            self.module_path = module_path.into();
+            self
+        }
+
+        /// With this message in place of the one before.
+        #[must_use]
+        pub fn with_message(mut self, message: &'a str) -> Self {
+            self.message = message;
+            self
+        }
+    };
+}
+
 /// A record of the device. What is not known is left out, and the line says so in its place.
 ///
 /// ```
 /// use pralakuon::{Formatter, FormatterConfig, Level, Record};
 ///
 /// let formatter = Formatter::new(FormatterConfig::custom("{L} {f}:{l:1} {s}"))?;
-/// let record = Record { file: Some("/head/src/gauge.rs"), line: Some(118), ..Record::new(Level::Warn, "slow") };
+/// let record = Record::new(Level::Warn, "slow").with_file("/head/src/gauge.rs").with_line(118);
 /// assert_eq!(formatter.format(&record)?, "WARN  gauge.rs:118 slow");
-/// assert_eq!(formatter.format(&Record::new(Level::Warn, "slow"))?, "WARN  <file>:0 slow");
+/// assert_eq!(formatter.format(&record.with_file(None).with_line(None))?, "WARN  <file>:0 slow");
 /// // A print has no level, and its line is the message alone.
 /// assert_eq!(formatter.format(&Record::print("scan ends"))?, "scan ends");
 /// # Ok::<(), pralakuon::Refusal>(())
 /// ```
 #[derive(Clone, Copy, Debug, Default, PartialEq, Eq, Hash)]
+#[non_exhaustive]
 pub struct Record<'a> {
     /// None for a print.
     pub level: Option<Level>,
@@ -32,15 +66,36 @@ pub struct Record<'a> {
 }
 
 impl<'a> Record<'a> {
+    /// The most bytes that each of its texts may have. A longer one is refused with 11, and with it the record.
+    pub const LONGEST_TEXT: usize = 4_096;
+
     /// A record of which only level and message are known.
+    #[must_use]
     pub fn new(level: Level, message: &'a str) -> Self {
-        Record { level: Some(level), message, ..Record::default() }
+        Record::print(message).with_level(level)
     }
 
     /// A print: a record without level.
+    #[must_use]
     pub fn print(message: &'a str) -> Self {
         Record { message, ..Record::default() }
     }
+
+    /// With this level, or with none, as a print: a level, or an `Option` of one.
+    #[must_use]
+    pub fn with_level(mut self, level: impl Into<Option<Level>>) -> Self {
+        self.level = level.into();
+        self
+    }
+
+    /// With the time when it happened. An empty text says that it is not known.
+    #[must_use]
+    pub fn with_timestamp(mut self, timestamp: &'a str) -> Self {
+        self.timestamp = timestamp;
+        self
+    }
+
+    shared_builders!();
 }
 
 /// A record of the host. It always has a level and never a timestamp.
@@ -49,11 +104,12 @@ impl<'a> Record<'a> {
 /// use pralakuon::{FormatterConfig, HostFormatter, HostRecord, Level};
 ///
 /// let formatter = HostFormatter::new(FormatterConfig::custom("{t} {L} {c}: {s}"))?;
-/// let record = HostRecord { module_path: Some("tablet::app"), ..HostRecord::new(Level::Debug, "sheet closed") };
+/// let record = HostRecord::new(Level::Debug, "sheet closed").with_module_path("tablet::app");
 /// assert_eq!(formatter.format(&record)?, "<time> DEBUG tablet: sheet closed");
 /// # Ok::<(), pralakuon::Refusal>(())
 /// ```
 #[derive(Clone, Copy, Debug, PartialEq, Eq, Hash)]
+#[non_exhaustive]
 pub struct HostRecord<'a> {
     /// How grave it is.
     pub level: Level,
@@ -69,7 +125,17 @@ pub struct HostRecord<'a> {
 
 impl<'a> HostRecord<'a> {
     /// A record of which only level and message are known.
+    #[must_use]
     pub fn new(level: Level, message: &'a str) -> Self {
         HostRecord { level, file: None, line: None, module_path: None, message }
     }
+
+    /// With this level in place of the one before.
+    #[must_use]
+    pub fn with_level(mut self, level: Level) -> Self {
+        self.level = level;
+        self
+    }
+
+    shared_builders!();
 }

@@ -1,11 +1,11 @@
-//! The fifteen reasons for which there is no line.
+//! The reasons for which there is no line: fifteen with a number, and two that concern the archive itself.
 
-use crate::entries;
+use crate::Version;
 use std::error::Error;
-use std::fmt;
-use std::mem::discriminant;
+use std::{fmt, io};
 
-/// Why there is no line. The numbers are document 01's and those of the C header.
+/// Why there is no line. The numbers are those of the C header; docs/GUIDE.md says how to mend what each tells. Later
+/// versions may have more reasons.
 ///
 /// ```
 /// use pralakuon::{check, Refusal};
@@ -16,6 +16,7 @@ use std::mem::discriminant;
 /// assert_eq!(refusal.to_string(), "refusal 7: the template asks for a width above 512");
 /// ```
 #[derive(Clone, Copy, Debug, PartialEq, Eq, Hash)]
+#[non_exhaustive]
 pub enum Refusal {
     /// 1: template over 1,024 bytes.
     TemplateTooLong,
@@ -48,36 +49,48 @@ pub enum Refusal {
     },
     /// 14: an unknown source, level or mask, a host's record without level, or an absent field that is there.
     NotARecord,
-    /// 15: a sheet over 65,536 bytes, or not laid out as a sheet is.
+    /// 15: a sheet over 65,536 bytes, a sheet or a record that is not laid out as one, or an unknown settings bit.
     NotASheet,
+    /// The archive refuses by a number that this crate does not know.
+    Unknown {
+        /// That number.
+        number: u8,
+    },
+    /// The linked archive is of another version than this crate, so nothing else was asked of it.
+    OtherVersion {
+        /// The version of the archive; that of this crate is [`Version::HOST`].
+        archive: Version,
+    },
 }
 
-/// Each refusal with its number and what is told of it.
-const TABLE: [(u8, Refusal, &str); 15] = [
-    (1, Refusal::TemplateTooLong, "the template is over 1,024 bytes"),
-    (2, Refusal::TemplateNotUtf8, "the template is not UTF-8"),
-    (3, Refusal::Failure, "the template cannot be read"),
-    (4, Refusal::NoMessage, "the template nowhere names the message, {s}"),
-    (5, Refusal::TooManySegments, "the template has more than 64 segments"),
-    (6, Refusal::TooDeep, "the template has braces more than 8 deep"),
-    (7, Refusal::TooWide, "the template asks for a width above 512"),
-    (8, Refusal::TooManyF, "the template has a name of more than 255 f"),
-    (9, Refusal::HalfEscape, "the template ends in a backslash where a closing brace is searched for"),
-    (10, Refusal::NameTouchesLetter, "a name in the template touches a character that is not ASCII"),
-    (11, Refusal::FieldTooLong, "a field of the record is over 4,096 bytes"),
-    (12, Refusal::FieldNotUtf8, "a field of the record is not UTF-8"),
-    (13, Refusal::LineTooLong { needed: 0 }, "the line is longer than the buffer"),
-    (14, Refusal::NotARecord, "the record has an unknown number or contradicts itself"),
-    (15, Refusal::NotASheet, "the sheet is over 65,536 bytes or not laid out as one"),
+/// The refusals with a number, in the order of their numbers.
+const NUMBERED: [Refusal; 15] = [
+    Refusal::TemplateTooLong,
+    Refusal::TemplateNotUtf8,
+    Refusal::Failure,
+    Refusal::NoMessage,
+    Refusal::TooManySegments,
+    Refusal::TooDeep,
+    Refusal::TooWide,
+    Refusal::TooManyF,
+    Refusal::HalfEscape,
+    Refusal::NameTouchesLetter,
+    Refusal::FieldTooLong,
+    Refusal::FieldNotUtf8,
+    Refusal::LineTooLong { needed: 0 },
+    Refusal::NotARecord,
+    Refusal::NotASheet,
 ];
 
 impl Refusal {
-    /// Its number, 1 to 15.
+    /// Its number: 1 to 15, the archive's own where it is [`Unknown`](Refusal::Unknown), and 0 for
+    /// [`OtherVersion`](Refusal::OtherVersion), which no archive answers.
+    #[must_use]
     pub fn number(self) -> u8 {
-        self.entry().0
+        self.told().0
     }
 
-    /// The refusal of a number; none but 1 to 15 has one. A bare 13 says nothing of the length needed, so that is 0 then.
+    /// The refusal of a number; none but 1 to 15 has one. A bare 13 says nothing of the length needed, which is 0 then.
     ///
     /// ```
     /// use pralakuon::Refusal;
@@ -85,38 +98,55 @@ impl Refusal {
     /// assert_eq!(Refusal::from_number(3), Some(Refusal::Failure));
     /// assert_eq!(Refusal::from_number(16), None);
     /// ```
+    #[must_use]
     pub fn from_number(number: u8) -> Option<Refusal> {
-        TABLE.iter().find(|entry| entry.0 == number).map(|entry| entry.1)
+        NUMBERED.into_iter().find(|refusal| refusal.number() == number)
     }
 
-    fn entry(self) -> &'static (u8, Refusal, &'static str) {
-        let same = |entry: &&(u8, Refusal, &str)| discriminant(&entry.1) == discriminant(&self);
-        TABLE.iter().find(same).expect("the table has every refusal")
+    /// Its number, and what is said of it.
+    fn told(self) -> (u8, &'static str) {
+        match self {
+            Refusal::TemplateTooLong => (1, "the template is over 1,024 bytes"),
+            Refusal::TemplateNotUtf8 => (2, "the template is not UTF-8"),
+            Refusal::Failure => (3, "the template cannot be read"),
+            Refusal::NoMessage => (4, "the template nowhere names the message, {s}"),
+            Refusal::TooManySegments => (5, "the template has more than 64 segments"),
+            Refusal::TooDeep => (6, "the template has braces more than 8 deep"),
+            Refusal::TooWide => (7, "the template asks for a width above 512"),
+            Refusal::TooManyF => (8, "the template has a name of more than 255 f"),
+            Refusal::HalfEscape => (9, "the template ends in a backslash where a closing brace is searched for"),
+            Refusal::NameTouchesLetter => (10, "a name in the template touches a character that is not ASCII"),
+            Refusal::FieldTooLong => (11, "a text of the record is over 4,096 bytes"),
+            Refusal::FieldNotUtf8 => (12, "a text of the record is not UTF-8"),
+            Refusal::LineTooLong { .. } => (13, "the line is longer than the buffer"),
+            Refusal::NotARecord => (14, "the record has an unknown number or contradicts itself"),
+            Refusal::NotASheet => (15, "a settings bit is unknown, or a record or sheet is not laid out as one"),
+            Refusal::Unknown { number } => (number, "the archive has a reason that this crate does not know"),
+            Refusal::OtherVersion { .. } => (0, "the archive is of another version"),
+        }
     }
 }
 
 impl fmt::Display for Refusal {
     fn fmt(&self, out: &mut fmt::Formatter<'_>) -> fmt::Result {
-        let (number, _, message) = self.entry();
-        write!(out, "refusal {number}: {message}")?;
+        let (number, reason) = self.told();
         match self {
-            Refusal::LineTooLong { needed: 0 } => Ok(()),
-            Refusal::LineTooLong { needed } => write!(out, ", {needed} bytes are needed"),
-            _ => Ok(()),
+            Refusal::OtherVersion { archive } => {
+                write!(out, "{reason}: {archive}, and this crate is {}", Version::HOST)
+            }
+            Refusal::LineTooLong { needed } if *needed > 0 => {
+                write!(out, "refusal {number}: {reason}, {needed} bytes are needed")
+            }
+            _ => write!(out, "refusal {number}: {reason}"),
         }
     }
 }
 
 impl Error for Refusal {}
 
-/// What an answer of the archive says: a length, or why there is none.
-pub(crate) fn settle(answer: u64) -> Result<usize, Refusal> {
-    let (number, length) = (entries::refusal_of(answer), entries::length_of(answer));
-    if number == 0 {
-        return Ok(length);
+impl From<Refusal> for io::Error {
+    /// An error of the kind [`InvalidData`](io::ErrorKind::InvalidData) with the refusal inside.
+    fn from(refusal: Refusal) -> io::Error {
+        io::Error::new(io::ErrorKind::InvalidData, refusal)
     }
-    Err(match Refusal::from_number(number).expect("the archive refuses by the header's numbers") {
-        Refusal::LineTooLong { .. } => Refusal::LineTooLong { needed: length },
-        refusal => refusal,
-    })
 }

@@ -1,14 +1,14 @@
 //! All lines of a session sheet at once.
 
-use crate::refusal::settle;
+use crate::answer::asked;
 use crate::room::with_room;
 use crate::{entries, Refusal};
 
 /// Room for the lines of most sheets.
-const FIRST_ROOM: usize = 65_536;
+const ROOM_FOR_ALL: usize = 65_536;
 
-/// The lines of a sheet: for each record its line or `! N`, N being a refusal's number, and a newline. A sheet that is
-/// none or whose template is refused has no lines: that refusal is the answer.
+/// The lines of a sheet: for each record its line or `! N`, N being a refusal's number, and a newline.
+/// [`Sheet::lines`](crate::Sheet::lines) gives them one by one.
 ///
 /// ```
 /// use pralakuon::{session, Level, Record, Refusal, Settings, SheetWriter};
@@ -18,14 +18,16 @@ const FIRST_ROOM: usize = 65_536;
 /// sheet.push(&Record::print("boot"))?;
 /// assert_eq!(session(&sheet.finish())?, b"[ERROR] hello\nboot\n");
 /// assert_eq!(session(b"not a sheet"), Err(Refusal::NotASheet));
-/// # Ok::<(), Refusal>(())
+/// # Ok::<(), Box<dyn std::error::Error>>(())
 /// ```
+///
+/// # Errors
+/// [`NotASheet`](Refusal::NotASheet), or refusals 1 to 10 where the template is refused: then there are no lines.
 pub fn session(sheet: &[u8]) -> Result<Vec<u8>, Refusal> {
-    with_room(FIRST_ROOM, |out| session_into(sheet, out))
+    with_room(ROOM_FOR_ALL, |out| session_into(sheet, out))
 }
 
-/// Writes the lines of a sheet to the front of `out` and gives their length. A refusal leaves `out` as it was: that of
-/// the whole sheet, or 13 where an accepted sheet's lines need more room.
+/// Writes the lines of a sheet to the front of `out` and gives their length.
 ///
 /// ```
 /// use pralakuon::{session_into, Record, Refusal, Settings, SheetWriter};
@@ -39,8 +41,12 @@ pub fn session(sheet: &[u8]) -> Result<Vec<u8>, Refusal> {
 /// assert_eq!(out, [0; 5]);
 /// assert_eq!(session_into(&sheet, &mut out), Ok(5));
 /// assert_eq!(&out, b"boot\n");
-/// # Ok::<(), Refusal>(())
+/// # Ok::<(), Box<dyn std::error::Error>>(())
 /// ```
+///
+/// # Errors
+/// As [`session`], and [`LineTooLong`](Refusal::LineTooLong) where the lines of an accepted sheet need more room. A
+/// refusal leaves `out` as it was.
 pub fn session_into(sheet: &[u8], out: &mut [u8]) -> Result<usize, Refusal> {
-    settle(entries::session(sheet, out))
+    asked(|| entries::session(sheet, out))
 }

@@ -1,6 +1,6 @@
 //! What can be told of a template alone, and the built-in ones.
 
-use crate::refusal::settle;
+use crate::answer::asked;
 use crate::room::with_room;
 use crate::{entries, Refusal};
 
@@ -13,8 +13,11 @@ use crate::{entries, Refusal};
 /// assert_eq!(check(b"{s:bold:bold}"), Err(Refusal::Failure));
 /// assert_eq!(check(b"{s}\xff"), Err(Refusal::TemplateNotUtf8));
 /// ```
+///
+/// # Errors
+/// Refusals 1 to 10.
 pub fn check(template: &[u8]) -> Result<(), Refusal> {
-    settle(entries::check(template)).map(|_| ())
+    asked(|| entries::check(template)).map(|_| ())
 }
 
 /// Whether a template names the time, `{t}`, at any depth.
@@ -26,8 +29,11 @@ pub fn check(template: &[u8]) -> Result<(), Refusal> {
 /// assert_eq!(names_timestamp(b"t {s}"), Ok(false));
 /// assert_eq!(names_timestamp(b"{t}"), Err(Refusal::NoMessage));
 /// ```
+///
+/// # Errors
+/// Refusals 1 to 10, as [`check`].
 pub fn names_timestamp(template: &[u8]) -> Result<bool, Refusal> {
-    settle(entries::timestamp(template)).map(|length| length != 0)
+    asked(|| entries::timestamp(template)).map(|length| length != 0)
 }
 
 /// The two families of built-in templates, by the numbers of the entry.
@@ -38,9 +44,8 @@ pub(crate) enum Style {
 }
 
 /// A built-in template.
-pub(crate) fn builtin(style: Style, with_location: bool, with_timestamp: bool, host: bool) -> String {
-    let [location, timestamp, host] = [with_location, with_timestamp, host].map(u8::from);
-    let template = with_room(0, |out| settle(entries::builtin(style as u8, location, timestamp, host, out)))
-        .expect("for a built-in template only room is asked");
-    String::from_utf8(template).expect("a built-in template is UTF-8")
+pub(crate) fn builtin(style: Style, location: bool, timestamp: bool, host: bool) -> Result<String, Refusal> {
+    let [location, timestamp, host] = [location, timestamp, host].map(u8::from);
+    let template = with_room(0, |out| asked(|| entries::builtin(style as u8, location, timestamp, host, out)))?;
+    Ok(String::from_utf8(template).expect("a built-in template is UTF-8"))
 }

@@ -4,22 +4,17 @@ use pralakuon::{
     check, Formatter, FormatterConfig, FormatterFormat, HostFormatter, HostRecord, Level, Record, Refusal, Settings,
 };
 
-const DEVICE: Record = Record {
-    level: Some(Level::Info),
-    file: Some("/head/src/gauge.rs"),
-    line: Some(8),
-    module_path: Some("gauge::read"),
-    timestamp: "0.25",
-    message: "hello",
-};
+fn device_record() -> Record<'static> {
+    Record::new(Level::Info, "hello")
+        .with_file("/head/src/gauge.rs")
+        .with_line(8)
+        .with_module_path("gauge::read")
+        .with_timestamp("0.25")
+}
 
-const HOST: HostRecord = HostRecord {
-    level: Level::Warn,
-    file: Some("/tablet/src/app.rs"),
-    line: Some(40),
-    module_path: Some("tablet::app"),
-    message: "closed",
-};
+fn host_record() -> HostRecord<'static> {
+    HostRecord::new(Level::Warn, "closed").with_file("/tablet/src/app.rs").with_line(40).with_module_path("tablet::app")
+}
 
 /// With location, with timestamp, the device's line, the host's line.
 const DEFAULT: [(bool, bool, &str, &str); 4] = [
@@ -52,7 +47,7 @@ const ONE_LINE: [(bool, bool, &str, &str); 4] = [
 ];
 
 fn config(format: FormatterFormat, with_timestamp: bool) -> FormatterConfig {
-    let config = FormatterConfig { format, ..FormatterConfig::default() };
+    let config = FormatterConfig::new(format);
     if with_timestamp {
         config.with_timestamp()
     } else {
@@ -62,8 +57,8 @@ fn config(format: FormatterFormat, with_timestamp: bool) -> FormatterConfig {
 
 fn shows(config: FormatterConfig, device_line: &str, host_line: &str) {
     let (device, host) = (Formatter::new(config).unwrap(), HostFormatter::new(config).unwrap());
-    assert_eq!(device.format(&DEVICE).as_deref(), Ok(device_line));
-    assert_eq!(host.format(&HOST).as_deref(), Ok(host_line));
+    assert_eq!(device.format(&device_record()).as_deref(), Ok(device_line));
+    assert_eq!(host.format(&host_record()).as_deref(), Ok(host_line));
     for (template, names) in [(device.template(), device.names_timestamp()), (host.template(), host.names_timestamp())]
     {
         assert_eq!(check(template.as_bytes()), Ok(()));
@@ -89,7 +84,7 @@ fn the_one_line_format() {
 fn the_one_line_format_is_bold_and_dimmed() {
     let format = FormatterFormat::OneLine { with_location: true };
     let config = config(format, false).with_settings(Settings::CRATE_COLOUR);
-    let line = Formatter::new(config).unwrap().format(&DEVICE).unwrap();
+    let line = Formatter::new(config).unwrap().format(&device_record()).unwrap();
     let level = "\x1b[1m[\x1b[32mINFO \x1b[0m\x1b[1m]\x1b[0m";
     let location = "\x1b[2m(\x1b[1mgauge\x1b[0m\x1b[2m head/src/gauge.rs:8)\x1b[0m";
     assert_eq!(line, format!("{level} hello {location}"));

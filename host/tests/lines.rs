@@ -2,9 +2,10 @@
 
 mod common;
 
-use common::{visible, PAINT};
+use common::PAINT;
 use pralakuon::{
-    line, Formatter, FormatterConfig, HostFormatter, HostRecord, Level, RawRecord, Record, Refusal, Settings,
+    line, visible_str, Formatter, FormatterConfig, HostFormatter, HostRecord, Level, RawRecord, Record, Refusal,
+    Settings,
 };
 
 fn formatter(template: &str, settings: Settings) -> Formatter {
@@ -62,31 +63,25 @@ fn a_grown_line_is_the_same_at_every_length() {
 fn a_record_is_shown_field_by_field() {
     let everything = "{t}|{L}|{c}|{m}|{F}|{ff}|{l:1}|{s}";
     let device = formatter(everything, Settings::PLAIN);
-    let full = Record {
-        level: Some(Level::Debug),
-        file: Some("/head/src/gauge.rs"),
-        line: Some(4_294_967_295),
-        module_path: Some("gauge::read"),
-        timestamp: "0.25",
-        message: "crack",
-    };
+    let full = Record::new(Level::Debug, "crack")
+        .with_file("/head/src/gauge.rs")
+        .with_line(4_294_967_295)
+        .with_module_path("gauge::read")
+        .with_timestamp("0.25");
     let shown = "0.25|DEBUG|gauge|gauge::read|/head/src/gauge.rs|src/gauge.rs|4294967295|crack";
     assert_eq!(device.format(&full).as_deref(), Ok(shown));
     let bare = Record::new(Level::Debug, "crack");
     assert_eq!(device.format(&bare).as_deref(), Ok("<time>|DEBUG|<crate>|<mod path>|<file>|<file>|0|crack"));
     // Present and empty is not absent.
-    let empty = Record { file: Some(""), module_path: Some(""), line: Some(0), ..bare };
+    let empty = bare.with_file("").with_module_path("").with_line(0);
     assert_eq!(device.format(&empty).as_deref(), Ok("<time>|DEBUG|<crate>|||<file>|0|crack"));
-    assert_eq!(device.format(&Record { level: None, ..full }).as_deref(), Ok("crack"));
+    assert_eq!(device.format(&full.with_level(None)).as_deref(), Ok("crack"));
 
     let host = HostFormatter::new(FormatterConfig::custom(everything)).unwrap();
-    let full = HostRecord {
-        level: Level::Trace,
-        file: Some("/tablet/app.rs"),
-        line: Some(40),
-        module_path: Some("tablet::app"),
-        message: "closed",
-    };
+    let full = HostRecord::new(Level::Trace, "closed")
+        .with_file("/tablet/app.rs")
+        .with_line(40)
+        .with_module_path("tablet::app");
     let shown = "<time>|TRACE|tablet|tablet::app|/tablet/app.rs|tablet/app.rs|40|closed";
     assert_eq!(host.format(&full).as_deref(), Ok(shown));
     let bare = HostRecord::new(Level::Trace, "closed");
@@ -111,15 +106,14 @@ fn straight_colour_taken_out_is_the_plain_line() {
     let mut slid = 0;
     for template in templates {
         for level in Level::ALL {
-            let record =
-                Record { file: Some("/a/été.rs"), module_path: Some("a::b"), ..Record::new(level, "réglé") };
+            let record = Record::new(level, "réglé").with_file("/a/été.rs").with_module_path("a::b");
             let line = |settings| formatter(template, settings).format(&record).unwrap();
             let plain = line(Settings::PLAIN);
             let (straight, crates) = (line(Settings::STRAIGHT_COLOUR), line(Settings::CRATE_COLOUR));
             assert_ne!(straight, plain, "there is colour");
-            assert_eq!(visible(&straight), plain);
-            slid += usize::from(visible(&crates) != plain);
-            assert_eq!(line(Settings { colour: false, straight: true }), plain);
+            assert_eq!(visible_str(&straight).as_ref(), Ok(&plain));
+            slid += usize::from(visible_str(&crates).as_ref() != Ok(&plain));
+            assert_eq!(line(Settings::PLAIN.with_straight(true)), plain);
         }
     }
     assert!(slid >= 5, "the crate's columns slide with the first template at least");
@@ -149,10 +143,35 @@ fn threads_may_share_a_formatter() {
 
 #[test]
 fn the_raw_form_of_a_record_is_the_record() {
-    let record = Record { line: Some(7), module_path: Some("a::b"), ..Record::new(Level::Warn, "hello") };
-    let raw = RawRecord { level: 2, mask: 6, line: 7, module_path: b"a::b", message: b"hello", ..RawRecord::default() };
-    assert_eq!(RawRecord::from(&record), raw);
-    let host = HostRecord { file: Some("f"), ..HostRecord::new(Level::Trace, "hello") };
-    let raw = RawRecord { source: 1, level: 5, mask: 1, file: b"f", message: b"hello", ..RawRecord::default() };
-    assert_eq!(RawRecord::from(&host), raw);
+    let record = Record::new(Level::Warn, "hello").with_line(7).with_module_path("a::b").with_timestamp("0.5");
+    let raw = RawRecord::new().with_level(2).with_line(7).with_module_path(b"a::b");
+    assert_eq!(RawRecord::from(&record), raw.with_timestamp(b"0.5").with_message(b"hello").with_mask(6));
+    let host = HostRecord::new(Level::Trace, "hello").with_file("f");
+    let raw = RawRecord::new().with_source(1).with_level(5).with_file(b"f");
+    assert_eq!(RawRecord::from(&host), raw.with_message(b"hello").with_mask(1));
+}
+
+#[test]
+fn levels_are_parsed_as_they_are_shown() {
+    for level in Level::ALL {
+        let name = level.to_string();
+        assert_eq!([name.parse(), name.to_lowercase().parse()], [Ok(level); 2]);
+        assert_eq!(Level::try_from(level.number()), Ok(level));
+        assert_eq!(format!("{level:>6}|{level:<6}|"), format!("{name:>6}|{name:<6}|"));
+    }
+    for name in ["", " WARN", "WARNING", "3"] {
+        assert!(name.parse::<Level>().is_err(), "{name:?}");
+    }
+    for number in [0, 6, 255] {
+        assert!(Level::try_from(number).is_err(), "{number}");
+    }
+}
+
+#[test]
+fn what_is_given_to_a_raw_record_is_marked_and_a_mask_is_taken_as_it_is() {
+    let raw = RawRecord::new().with_file(b"f").with_line(7);
+    assert_eq!(raw.mask, RawRecord::FILE | RawRecord::LINE);
+    assert_eq!(raw.with_module_path(b"").mask, 7);
+    assert_eq!((raw.with_mask(0xf8).mask, raw.with_mask(0).file), (0xf8, &b"f"[..]));
+    assert_eq!(raw.with_mask(0xf8).with_module_path(b"m").mask, 0xfc);
 }

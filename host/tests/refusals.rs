@@ -5,7 +5,7 @@ mod common;
 use common::{archive_refuses, hand_laid, hello, line_of, sheet_of};
 use pralakuon::{
     check, names_timestamp, session, Formatter, FormatterConfig, FormatterFormat, HostFormatter, HostRecord, Level,
-    RawRecord, Record, Refusal, Settings, Sheet, SheetWriter,
+    RawRecord, Record, Refusal, Settings, Sheet, SheetFull, SheetWriter, Version,
 };
 
 /// A sheet of two records.
@@ -17,7 +17,7 @@ fn sheet_with(template: &[u8]) -> Vec<u8> {
 }
 
 fn config(template: &str) -> FormatterConfig<'_> {
-    FormatterConfig { format: FormatterFormat::Custom(template), ..FormatterConfig::default() }
+    FormatterConfig::new(FormatterFormat::Custom(template))
 }
 
 /// Every way to give a template refuses it with this number.
@@ -117,14 +117,13 @@ fn r10_a_name_beside_a_letter_that_is_not_ascii() {
 
 /// A record with this text in the field of this number, in the order in which fields are checked.
 fn with_field<'a>(field: usize, text: &'a [u8]) -> RawRecord<'a> {
-    let mut record = RawRecord { mask: RawRecord::FILE | RawRecord::MODULE, ..hello() };
+    let record = hello().with_file(b"").with_module_path(b"");
     match field {
-        0 => record.file = text,
-        1 => record.module_path = text,
-        2 => record.timestamp = text,
-        _ => record.message = text,
+        0 => record.with_file(text),
+        1 => record.with_module_path(text),
+        2 => record.with_timestamp(text),
+        _ => record.with_message(text),
     }
-    record
 }
 
 #[test]
@@ -150,25 +149,16 @@ fn r11_through_the_formatters() {
     let host = HostFormatter::new(config("{F}{m}{t}{s}")).unwrap();
     let [fits, long] = [4_096, 70_000].map(|bytes| "x".repeat(bytes));
     let (record, host_record) = (Record::new(Level::Info, ""), HostRecord::new(Level::Info, ""));
-    let records = |text| {
-        [
-            Record { file: Some(text), ..record },
-            Record { module_path: Some(text), ..record },
-            Record { timestamp: text, ..record },
-            Record { message: text, ..record },
-        ]
-    };
-    let host_records = |text| {
-        [
-            HostRecord { file: Some(text), ..host_record },
-            HostRecord { module_path: Some(text), ..host_record },
-            HostRecord { message: text, ..host_record },
-        ]
-    };
-    assert!(records(&fits).iter().all(|record| device.format(record).unwrap().contains(&fits)));
-    assert!(host_records(&fits).iter().all(|record| host.format(record).unwrap().contains(&fits)));
-    assert!(records(&long).iter().all(|record| device.format(record) == Err(Refusal::FieldTooLong)));
-    assert!(host_records(&long).iter().all(|record| host.format(record) == Err(Refusal::FieldTooLong)));
+    fn records<'a>(record: Record<'a>, text: &'a str) -> [Record<'a>; 4] {
+        [record.with_file(text), record.with_module_path(text), record.with_timestamp(text), record.with_message(text)]
+    }
+    fn host_records<'a>(record: HostRecord<'a>, text: &'a str) -> [HostRecord<'a>; 3] {
+        [record.with_file(text), record.with_module_path(text), record.with_message(text)]
+    }
+    assert!(records(record, &fits).iter().all(|record| device.format(record).unwrap().contains(&fits)));
+    assert!(host_records(host_record, &fits).iter().all(|record| host.format(record).unwrap().contains(&fits)));
+    assert!(records(record, &long).iter().all(|record| device.format(record) == Err(Refusal::FieldTooLong)));
+    assert!(host_records(host_record, &long).iter().all(|record| host.format(record) == Err(Refusal::FieldTooLong)));
 }
 
 #[test]
@@ -185,9 +175,9 @@ fn r12_a_field_that_is_not_utf8() {
 #[test]
 fn r12_and_11_are_met_field_by_field() {
     let long = [b'x'; 4_097];
-    let first = RawRecord { message: &long, ..with_field(0, b"\xff") };
+    let first = with_field(0, b"\xff").with_message(&long);
     assert_eq!(line_of(b"{s}", Settings::PLAIN, first), Err(Refusal::FieldNotUtf8));
-    let first = RawRecord { message: b"\xff", ..with_field(0, &long) };
+    let first = with_field(0, &long).with_message(b"\xff");
     assert_eq!(line_of(b"{s}", Settings::PLAIN, first), Err(Refusal::FieldTooLong));
 }
 
@@ -196,7 +186,7 @@ fn r13_in_a_session_a_line_of_65537_bytes() {
     // Sixteen messages of 4,096 bytes are 65,536, the program's line buffer.
     let printed = |template: String| {
         let mut writer = SheetWriter::new(Settings::PLAIN, template.as_bytes()).unwrap();
-        writer.push(RawRecord { message: &[b'm'; 4_096], ..hello() }).unwrap();
+        writer.push(hello().with_message(&[b'm'; 4_096])).unwrap();
         writer.push(hello()).unwrap();
         session(&writer.finish()).unwrap()
     };
@@ -207,29 +197,29 @@ fn r13_in_a_session_a_line_of_65537_bytes() {
 
 #[test]
 fn r14_a_record_that_cannot_be() {
-    let (device, host) = (hello(), RawRecord { source: RawRecord::HOST, ..hello() });
+    let (device, host) = (hello(), hello().with_source(RawRecord::HOST));
     let possible = [
-        RawRecord { level: 0, ..device },
-        RawRecord { level: 5, ..device },
-        RawRecord { level: 1, ..host },
-        RawRecord { level: 5, ..host },
-        RawRecord { mask: 7, line: u32::MAX, file: b"f", module_path: b"m", ..device },
-        RawRecord { mask: 7, ..device },
+        device.with_level(0),
+        device.with_level(5),
+        host.with_level(1),
+        host.with_level(5),
+        device.with_line(u32::MAX).with_file(b"f").with_module_path(b"m"),
+        device.with_mask(7),
     ];
     for record in possible {
         assert!(line_of(b"{s}", Settings::PLAIN, record).is_ok(), "{record:?}");
     }
     let impossible = [
-        RawRecord { source: 2, ..device },
-        RawRecord { level: 6, ..device },
-        RawRecord { level: 6, ..host },
-        RawRecord { level: 0, ..host },
-        RawRecord { mask: 8, ..device },
-        RawRecord { mask: 6, file: b"f", ..device },
-        RawRecord { mask: 5, line: 1, ..device },
-        RawRecord { mask: 3, module_path: b"m", ..device },
+        device.with_source(2),
+        device.with_level(6),
+        host.with_level(6),
+        host.with_level(0),
+        device.with_mask(8),
+        device.with_file(b"f").with_mask(6),
+        device.with_line(1).with_mask(5),
+        device.with_module_path(b"m").with_mask(3),
         // 14 comes before what is wrong with a text, also with one that had to be cut.
-        RawRecord { mask: 6, file: &[0xff; 70_000], ..device },
+        device.with_file(&[0xff; 70_000]).with_mask(6),
     ];
     for record in impossible {
         assert_eq!(line_of(b"{s}", Settings::PLAIN, record), Err(Refusal::NotARecord), "{record:?}");
@@ -246,8 +236,8 @@ fn r15_a_sheet_of_65537_bytes() {
     };
     let written = |messages: &[Vec<u8>]| {
         let mut writer = SheetWriter::new(Settings::PLAIN, b"{s}")?;
-        messages.iter().try_for_each(|message| writer.push(RawRecord { message, ..hello() }))?;
-        Ok(writer.finish())
+        messages.iter().try_for_each(|message| writer.push(hello().with_message(message)))?;
+        Ok::<_, SheetFull>(writer.finish())
     };
     let by_hand = |messages: &[Vec<u8>]| {
         let bodies: Vec<_> = messages.iter().map(|message| hand_laid(message)).collect();
@@ -262,7 +252,8 @@ fn r15_a_sheet_of_65537_bytes() {
 
     let too_large = by_hand(&messages(texts + 1));
     assert_eq!(too_large.len(), 65_537);
-    assert_eq!(written(&messages(texts + 1)), Err(Refusal::NotASheet));
+    let full = written(&messages(texts + 1)).unwrap_err();
+    assert_eq!(full.needed, full.left + 1);
     assert_eq!(Sheet::read(&too_large), Err(Refusal::NotASheet));
     assert!(archive_refuses(&too_large));
 }
@@ -270,17 +261,21 @@ fn r15_a_sheet_of_65537_bytes() {
 #[test]
 fn r15_the_writer_refuses_what_does_not_fit_and_goes_on() {
     assert!(SheetWriter::new(Settings::PLAIN, &[b'x'; 65_529]).is_ok());
-    assert_eq!(SheetWriter::new(Settings::PLAIN, &[b'x'; 65_530]), Err(Refusal::NotASheet));
+    let full = SheetWriter::new(Settings::PLAIN, &[b'x'; 65_530]).unwrap_err();
+    assert_eq!((full.needed, full.left, full.fits_a_new_sheet()), (65_535, 65_534, false));
 
     let mut writer = SheetWriter::new(Settings::PLAIN, b"{s}").unwrap();
     writer.push(hello()).unwrap();
     let before = writer.clone();
-    for bytes in [65_484, 65_535, 65_536, 70_000, 1 << 20] {
-        let record = RawRecord { message: &vec![b'm'; bytes], ..hello() };
-        assert_eq!(writer.push(record), Err(Refusal::NotASheet), "{bytes} bytes");
+    // A record takes 19 bytes and its message; `hello` took 24 of the 65,526 that a sheet of `{s}` has for records.
+    for bytes in [65_484, 65_507, 65_508, 65_535, 65_536, 70_000, 1 << 20] {
+        let full = writer.push(hello().with_message(&vec![b'm'; bytes])).unwrap_err();
+        assert_eq!((full.needed, full.left), (bytes + 19, 65_502));
+        assert_eq!(full.fits_a_new_sheet(), bytes <= 65_507, "{bytes} bytes");
         assert_eq!(writer, before);
     }
-    writer.push(RawRecord { message: &[b'm'; 65_483], ..hello() }).unwrap();
+    assert!(SheetWriter::new(Settings::PLAIN, b"{s}").unwrap().push(hello().with_message(&[b'm'; 65_507])).is_ok());
+    writer.push(hello().with_message(&[b'm'; 65_483])).unwrap();
     assert_eq!(writer.size(), 65_536);
     assert_eq!(session(&writer.finish()).unwrap(), b"hello\n! 11\n");
 }
@@ -288,7 +283,7 @@ fn r15_the_writer_refuses_what_does_not_fit_and_goes_on() {
 #[test]
 fn r15_bodies_run_out_of_room_before_they_run_out_of_numbers() {
     let mut writer = SheetWriter::new(Settings::PLAIN, b"{s}").unwrap();
-    let empty = RawRecord { level: 3, ..RawRecord::default() };
+    let empty = RawRecord::new().with_level(3);
     let mut pushed = 0;
     while writer.push(empty).is_ok() {
         pushed += 1;
@@ -324,4 +319,15 @@ fn the_length_needed_is_told() {
     );
     let unknown = Refusal::from_number(13).unwrap();
     assert_eq!(unknown.to_string(), "refusal 13: the line is longer than the buffer");
+}
+
+#[test]
+fn what_concerns_the_archive_is_told() {
+    let unknown = Refusal::Unknown { number: 77 };
+    assert_eq!(unknown.number(), 77);
+    assert_eq!(unknown.to_string(), "refusal 77: the archive has a reason that this crate does not know");
+    let other = Refusal::OtherVersion { archive: Version { major: 7, minor: 8, patch: 9 } };
+    assert_eq!(other.number(), 0);
+    let told = format!("the archive is of another version: 7.8.9, and this crate is {}", env!("CARGO_PKG_VERSION"));
+    assert_eq!(other.to_string(), told);
 }

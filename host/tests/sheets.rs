@@ -2,10 +2,8 @@
 
 mod common;
 
-use common::{archive_refuses, hand_laid, sheet_of, PAINT};
-use pralakuon::{
-    line, session, session_into, HostRecord, Level, RawRecord, Record, Refusal, Settings, Sheet, SheetWriter,
-};
+use common::{archive_refuses, hand_laid, hello, printed_alone, sheet_of, PAINT};
+use pralakuon::{session, session_into, HostRecord, Level, RawRecord, Record, Refusal, Settings, Sheet, SheetWriter};
 use std::fs;
 use std::path::Path;
 
@@ -48,7 +46,7 @@ fn the_example_is_written_byte_for_byte_and_printed() {
     let mut writer = SheetWriter::new(Settings::PLAIN, b"[{L}] {s}").unwrap();
     writer.push(&Record::new(Level::Error, "hello")).unwrap();
     writer.push(&Record::print("boot")).unwrap();
-    writer.push(RawRecord { source: RawRecord::HOST, level: 0, ..RawRecord::default() }).unwrap();
+    writer.push(RawRecord::new().with_source(RawRecord::HOST)).unwrap();
     assert_eq!(writer.finish(), EXAMPLE);
     assert_eq!(session(EXAMPLE).unwrap(), b"[ERROR] hello\nboot\n! 14\n");
 }
@@ -57,33 +55,28 @@ fn the_example_is_written_byte_for_byte_and_printed() {
 fn the_example_is_read() {
     let sheet = Sheet::read(EXAMPLE).unwrap();
     assert_eq!((sheet.settings, sheet.template), (Settings::PLAIN, &b"[{L}] {s}"[..]));
-    let device = RawRecord { level: 1, message: b"hello", ..RawRecord::default() };
-    let print = RawRecord { message: b"boot", ..RawRecord::default() };
-    let host = RawRecord { source: 1, ..RawRecord::default() };
+    let device = RawRecord::new().with_level(1).with_message(b"hello");
+    let print = RawRecord::new().with_message(b"boot");
+    let host = RawRecord::new().with_source(1);
     assert_eq!(sheet.records, [device, print, host]);
 }
 
 #[test]
 fn every_kind_of_record_comes_back() {
-    let device = Record {
-        level: Some(Level::Warn),
-        file: Some("/head/été.rs"),
-        line: Some(0x0102_0304),
-        module_path: Some("gauge::read"),
-        timestamp: "0.25",
-        message: "crack",
-    };
-    let host = HostRecord { line: Some(40), ..HostRecord::new(Level::Trace, "closed") };
-    let wrong = RawRecord {
-        source: 255,
-        level: 254,
-        mask: 253,
-        line: 0xfffe_fdfc,
-        file: &[0xff; 300],
-        module_path: &[0; 5_000],
-        timestamp: b"\xc3",
-        message: b"",
-    };
+    let device = Record::new(Level::Warn, "crack")
+        .with_file("/head/été.rs")
+        .with_line(0x0102_0304)
+        .with_module_path("gauge::read")
+        .with_timestamp("0.25");
+    let host = HostRecord::new(Level::Trace, "closed").with_line(40);
+    let wrong = RawRecord::new()
+        .with_source(255)
+        .with_level(254)
+        .with_line(0xfffe_fdfc)
+        .with_file(&[0xff; 300])
+        .with_module_path(&[0; 5_000])
+        .with_timestamp(b"\xc3")
+        .with_mask(253);
     let mut writer = SheetWriter::new(Settings::STRAIGHT_COLOUR, b"\xff{").unwrap();
     writer.push(&device).unwrap();
     writer.push(&host).unwrap();
@@ -109,15 +102,38 @@ fn the_lines_of_samples_one_by_one() {
     for name in SAMPLES {
         let bytes = sample(&format!("{name}.sheet"));
         let sheet = Sheet::read(&bytes).unwrap();
-        let mut all = Vec::new();
-        for record in &sheet.records {
-            let mut out = [0; 1_000];
-            let length = line(sheet.template, sheet.settings, record, &mut out).unwrap();
-            all.extend(&out[..length]);
-            all.push(b'\n');
-        }
+        assert_eq!(sheet.lines().len(), sheet.records.len());
+        let all: Vec<u8> = sheet.lines().flat_map(printed_alone).collect();
         assert_eq!(all, sample(&format!("{name}.txt")), "{name}");
     }
+}
+
+#[test]
+fn lines_one_by_one_are_those_of_a_session() {
+    // Sixteen messages of 4,096 bytes are a line of 65,536.
+    let longest = [b'm'; 4_096];
+    let messages = [&b"hello"[..], &longest, b"\xff", b"", &[b'm'; 4_097]];
+    for template in ["{s}".repeat(16), "{s}".repeat(16) + "x"] {
+        let mut writer = SheetWriter::new(Settings::PLAIN, template.as_bytes()).unwrap();
+        messages.into_iter().for_each(|message| writer.push(hello().with_message(message)).unwrap());
+        let bytes = writer.finish();
+        let sheet = Sheet::read(&bytes).unwrap();
+        let all: Vec<u8> = sheet.lines().flat_map(printed_alone).collect();
+        assert!(session(&bytes) == Ok(all), "{template}");
+        let (length, second) = (template.len() - 48 + 65_536, sheet.lines().nth(1).unwrap());
+        match length {
+            65_536 => assert_eq!(second.unwrap().len(), length),
+            _ => assert_eq!(second, Err(Refusal::LineTooLong { needed: length })),
+        }
+    }
+}
+
+#[test]
+fn each_line_of_a_refused_template_is_its_refusal() {
+    let bytes = sheet_of(&[b"\0{t}", &hand_laid(b"hello"), &hand_laid(b"\xff")]);
+    let lines: Vec<_> = Sheet::read(&bytes).unwrap().lines().collect();
+    assert_eq!(lines, [Err(Refusal::NoMessage), Err(Refusal::NoMessage)]);
+    assert_eq!(session(&bytes), Err(Refusal::NoMessage));
 }
 
 #[test]
@@ -153,8 +169,8 @@ fn a_record_that_says_so_is_a_line_and_a_refused_one_is_told() {
     let mut writer = SheetWriter::new(Settings::PLAIN, b"{s}").unwrap();
     writer.push(&Record::print("! 15")).unwrap();
     assert_eq!(session(&writer.clone().finish()).unwrap(), b"! 15\n");
-    writer.push(RawRecord { message: b"\xff", ..RawRecord::default() }).unwrap();
-    writer.push(RawRecord { level: 6, ..RawRecord::default() }).unwrap();
+    writer.push(RawRecord::new().with_message(b"\xff")).unwrap();
+    writer.push(RawRecord::new().with_level(6)).unwrap();
     let sheet = writer.finish();
     assert_eq!(session(&sheet).unwrap(), b"! 15\n! 12\n! 14\n");
     let mut out = [PAINT; 14];

@@ -37,6 +37,7 @@ fn cases(input: Input) -> Vec<Case> {
                 Case::Line { template: sheet.template.clone(), record: record.write(), unknown: sheet.settings | 4 },
                 Case::Sheet(sheet.write()),
                 Case::BuiltIn([sheet.settings, record.source, record.level, record.mask]),
+                Case::Text(record.message.clone()),
             ]
         }
     }

@@ -8,6 +8,8 @@ mod fuzz;
 pub mod inputs;
 pub mod judge;
 pub mod meaning;
+#[cfg(all(test, feature = "port"))]
+mod migration;
 #[cfg(feature = "port")]
 mod ruling;
 pub mod sample;

@@ -5,6 +5,7 @@ mod stack;
 mod timing;
 
 use crate::judge::set_colour;
+use crate::ruling::line::without_sequences;
 use crate::sheet::{Record, COLOUR, FILE, LINE, MODULE, STRAIGHT};
 use crate::stub::format::{built_in, Template};
 use crate::stub::{DefmtRecord, Payload};
@@ -27,6 +28,7 @@ pub fn run() {
     println!("Run on {ARCH} with {VERSIONS}.\n");
     reading();
     lines();
+    visible();
     growth::run();
     stack::run();
 }
@@ -92,6 +94,24 @@ fn lines() {
                 shown(RATE * ours / 1e9 * 100.0)
             );
         }
+    }
+    println!();
+}
+
+/// What is visible of 64 KiB, by the port and by hand in Rust.
+fn visible() {
+    println!(
+        "| what is visible of 65,536 bytes | by hand in Rust, ns | port, ns | by hand / port |\n|---|---|---|---|"
+    );
+    let line =
+        "0.002500 \x1b[1m[\x1b[32mINFO \x1b[0m\x1b[1m]  \x1b[0m|\x1b[2mwall B3 crack 0.412 mm\x1b[0m gauge.rs:118\n";
+    for (name, piece) in [("coloured lines", line), ("plain lines", &without_sequences(line))] {
+        let text: String = piece.chars().cycle().take(65_536).collect();
+        let mut out = vec![0; text.len()];
+        let mut ports = || entries::visible(black_box(text.as_bytes()), &mut out);
+        assert_eq!(entries::refusal_of(ports()), 0, "there is room");
+        let (by_hand, ours) = in_turn(|| without_sequences(black_box(&text)), ports);
+        println!("| {name} | {} | {} | {} |", shown(by_hand), shown(ours), shown(by_hand / ours));
     }
     println!();
 }

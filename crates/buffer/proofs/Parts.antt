@@ -1,12 +1,12 @@
 -- Laws of parts of a list of bytes. Assumes nothing.
 use mathlib.Core.Path.{_≡_, ap, sym, _∙_}
-use mathlib.Core.List.{List, [], _∷_}
+use mathlib.Core.List.{List, [], _∷_, _++_}
 use Prim.Native.Nat.{ℕ, suc, _+_, _-_, _<_, _≤_}
 use native.Mathlib.Nat.{add-zero, sub-self}
 use native.Mathlib.Numerals.{add-one}
 use native.Mathlib.Omega.{arith}
 use lib.ListN.{length, take, drop, getD, length-drop}
-use lib.Seq.{drop-cons, length-take-le, getD-drop, drop-drop}
+use lib.Seq.{drop-cons, take-suc, length-take-le, getD-drop, drop-drop}
 use Rattle.buffer.specs.Bytes.{part}
 
 -- what is left at a place is the byte there and what is left after it
@@ -33,6 +33,15 @@ part-step d i e h g =
     ap (λ (n : ℕ). take n (drop i d)) k
     ∙ ap (take (suc (e - (i + 1)))) (drop-cons d i 0 (omega arith))
     ∙ ap (λ (n : ℕ). getD d i 0 ∷ take (e - (i + 1)) (drop n d)) (sym (add-one i))
+
+-- a part with one byte more is that byte after it
+pub part-snoc : (d : List ℕ) (i j : ℕ) → i ≤ j → j < length d → part i (j + 1) d ≡ part i j d ++ (getD d j 0 ∷ [])
+part-snoc d i j h g =
+    let k : (j + 1) - i ≡ suc (j - i) = omega arith in
+    let e : i + (j - i) ≡ j = omega arith in
+    ap (λ (n : ℕ). take n (drop i d)) k
+    ∙ take-suc (drop i d) (j - i) 0 (omega (arith, length-drop i d))
+    ∙ ap (λ (b : ℕ). take (j - i) (drop i d) ++ (b ∷ [])) (getD-drop i d (j - i) 0 ∙ ap (λ (n : ℕ). getD d n 0) e)
 
 pub part-length : (d : List ℕ) (i e : ℕ) → i ≤ e → e ≤ length d → length (part i e d) ≡ e - i
 part-length d i e h g = length-take-le (e - i) (drop i d) (omega (arith, length-drop i d))

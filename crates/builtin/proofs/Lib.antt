@@ -1,4 +1,3 @@
 pub mod Choices
 pub mod Choosing
-pub mod Fitting
 pub mod Rule

@@ -7,6 +7,7 @@ use Rattle.packing.proofs as packing
 use Rattle.answer.proofs as answer
 use Rattle.checking.proofs as checking
 use Rattle.builtin.proofs as builtin
+use Rattle.visible.proofs as visible
 use Rattle.sheet.proofs as sheet
 use Rattle.outcomes.proofs as outcomes
 use Rattle.session.proofs as session
@@ -42,6 +43,11 @@ names-timestamp-settled _ _ _ _ _ _ p q = (same p q, refl)
 
 put-chosen-settled : Settled 1 builtin.put_chosen.Kinds.ps builtin.put_chosen.Kinds.r builtin.put_chosen.Reads.Post
 put-chosen-settled _ _ _ _ _ _ p q = (same (p .0) (q .0), past (past (past (past (here (same (p .1) (q .1)))))))
+
+-- ---- visible
+
+visible-text-settled : Settled 2 visible.visible_text.Kinds.ps visible.visible_text.Kinds.r visible.visible_text.Reads.Post
+visible-text-settled _ _ _ _ _ _ p q = (same (p .0) (q .0), past (here (same (p .1 .0) (q .1 .0))))
 
 -- ---- sheet
 

@@ -86,6 +86,9 @@ prefix-len-settled _ _ _ _ _ _ p q = (same (p .0) (q .0), refl)
 
 -- ---- scanning
 
+in-sequence-settled : Settled 0 scanning.in_sequence.Kinds.ps scanning.in_sequence.Kinds.r scanning.in_sequence.Reads.Post
+in-sequence-settled _ _ _ _ _ _ p q = (same p q, refl)
+
 step-settled : Settled 0 scanning.step.Kinds.ps scanning.step.Kinds.r scanning.step.Reads.Post
 step-settled _ _ _ _ _ _ p q = (same p q, refl)
 

@@ -9,3 +9,4 @@ pub mod Sharp
 pub mod Sheets
 pub mod Templates
 pub mod TwoCalls
+pub mod VisibleText

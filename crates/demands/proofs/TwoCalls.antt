@@ -16,9 +16,11 @@ use Rattle.record.specs.Contents.{recordOf}
 use Rattle.fields.specs.Lines.{lineOf}
 use Rattle.settings.specs.Bits.{settingsOf}
 use Rattle.demands.specs.Demand3.{Fills, FallsShort}
+use Rattle.demands.specs.Lines.{FreeSegments, FreeRecord}
 use Rattle.demands.specs.CallDemand3.{Colourless, Answered, shownBy, MadeOf, CallDemand3}
 use Rattle.demands.proofs.Defined.{call-demand2}
 use Rattle.demands.proofs.OfLines.{line-demand3}
+use Rattle.demands.proofs.VisibleText.{visible-demand}
 
 -- the three modes by their settings byte
 straight-is : (s : Settings) → settingsOf 3 ≡ straight s
@@ -57,14 +59,23 @@ module _ (t : List ℕ) (s : LogSegments) (d : List ℕ) where
     each = subst (λ (x : Settings). Eachs (P x) x (shownBy t s d)) (sym m) h;
   }
 
+  -- what is visible of a straight line is the plain line
+  same : readTemplate t ≡ read s → FreeSegments t s → FreeRecord r → (settings : ℕ) → Colourless settings
+      → (lent₁ lent₂ left₁ left₂ : List ℕ) (answer₁ answer₂ : ℕ) → Answered t 3 d lent₁ left₁ answer₁ → Answered t settings d lent₂ left₂ answer₂
+      → visible (take (answer₁ / 256) left₁) ≡ take (answer₂ / 256) left₂
+  same e f g settings p lent₁ lent₂ left₁ left₂ answer₁ answer₂ a b =
+      let x = settingsOf settings in
+      ap visible (answered e 3 lent₁ left₁ answer₁ a ∙ ap (λ (y : Settings). lineOf y t s r) (straight-is x))
+      ∙ line-demand3 x t s r .same f g
+      ∙ ap (λ (y : Settings). lineOf y t s r) (sym (plain-is settings p))
+      ∙ sym (answered e settings lent₂ left₂ answer₂ b)
+
   pub call-demand3 : CallDemand3 t s d
   call-demand3 = record {
-    same = λ e f g settings p lent₁ lent₂ left₁ left₂ answer₁ answer₂ a b.
-        let x = settingsOf settings in
-        ap visible (answered e 3 lent₁ left₁ answer₁ a ∙ ap (λ (y : Settings). lineOf y t s r) (straight-is x))
-        ∙ line-demand3 x t s r .same f g
-        ∙ ap (λ (y : Settings). lineOf y t s r) (sym (plain-is settings p))
-        ∙ sym (answered e settings lent₂ left₂ answer₂ b);
+    same = same;
+    shown-plain = λ e f g settings p lent₁ lent₂ lent₃ left₁ left₂ left₃ answer₁ answer₂ answer₃ a b m k.
+        visible-demand (take (answer₁ / 256) left₁) lent₃ .shown left₃ answer₃ m k .front
+        ∙ same e f g settings p lent₁ lent₂ left₁ left₂ answer₁ answer₂ a b;
     fills-straight = λ e. made-of Fills e 3 (straight off) (straight-is off) (line-demand3 off t s r .fills-straight);
     fills-plain = λ e settings p.
         let x = settingsOf settings in made-of Fills e settings (plain x) (plain-is settings p) (line-demand3 x t s r .fills-plain);

@@ -19,6 +19,7 @@ use Rattle.record.specs.Contents.{recordOf}
 use Rattle.fields.specs.Lines.{recordShown}
 use Rattle.settings.specs.Bits.{settingsOf}
 use Rattle.answer.specs.Answers.{Meets, lineEntry}
+use Rattle.visible.specs.Visible.{visibleEntry}
 use Rattle.demands.specs.Demand3.{Fills, FallsShort}
 use Rattle.demands.specs.Lines.{FreeSegments, FreeRecord}
 
@@ -46,6 +47,13 @@ pub record CallDemand3 (t : List ℕ) (s : LogSegments) (d : List ℕ) : Type 0 
       → (settings : ℕ) → Colourless settings → (lent₁ lent₂ left₁ left₂ : List ℕ) (answer₁ answer₂ : ℕ)
       → Answered t 3 d lent₁ left₁ answer₁ → Answered t settings d lent₂ left₂ answer₂
       → visible (take (answer₁ / 256) left₁) ≡ take (answer₂ / 256) left₂
+  -- the same of three calls: what a third call shows of the first one's line is the second one's line
+  pub shown-plain : readTemplate t ≡ read s → FreeSegments t s → FreeRecord (recordOf (laidOut d))
+      → (settings : ℕ) → Colourless settings → (lent₁ lent₂ lent₃ left₁ left₂ left₃ : List ℕ) (answer₁ answer₂ answer₃ : ℕ)
+      → Answered t 3 d lent₁ left₁ answer₁
+      → Answered t settings d lent₂ left₂ answer₂
+      → Meets (visibleEntry (take (answer₁ / 256) left₁) lent₃) lent₃ left₃ answer₃ → answer₃ % 256 ≡ 0
+      → take (answer₃ / 256) left₃ ≡ take (answer₂ / 256) left₂
   -- "each group and specifier shown .. fills exactly the larger of its width and its visible characters": in straight mode, and with colour off
   pub fills-straight : readTemplate t ≡ read s → (lent left : List ℕ) (answer : ℕ)
       → Answered t 3 d lent left answer → MadeOf Fills 3 (shownBy t s d) (take (answer / 256) left)

@@ -7,3 +7,4 @@ pub mod Demand3
 pub mod Examples
 pub mod Lines
 pub mod OneLine
+pub mod VisibleText

@@ -10,10 +10,10 @@ use lib.Seq.{append-snoc}
 use borrow.Author.Tests.{eq-eqb, ne-eqb}
 use Rattle.buffer.specs.Bytes.{bytes, part, same}
 use Rattle.buffer.specs.Table.{Maybe, none, some}
-use Rattle.buffer.proofs.Parts.{part-step, part-end, part-length}
+use Rattle.buffer.proofs.Parts.{part-step, part-snoc, part-end, part-length}
 use Rattle.paths.specs.Paths.{after-byte, beforeColons}
 use Rattle.fields.specs.Texts.{orPlaceholder}
-use Rattle.paths.proofs.Pieces.{eqb-sym, part-snoc, part-two}
+use Rattle.paths.proofs.Pieces.{eqb-sym, part-two}
 
 -- ---- two colons
 

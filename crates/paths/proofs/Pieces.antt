@@ -5,12 +5,12 @@ use mathlib.Core.List.{List, [], _∷_, _++_, append-nil}
 use Prim.Native.Nat.{ℕ, suc, _+_, _-_, _<_, _≤_}
 use native.Mathlib.Omega.{arith}
 use lib.Dec.{eqb}
-use lib.ListN.{length, take, drop, getD, length-drop}
-use lib.Seq.{take-suc, getD-drop, append-snoc, drop-nil}
+use lib.ListN.{length, take, drop, getD}
+use lib.Seq.{append-snoc, drop-nil}
 use borrow.Author.Tests.{eq-eqb, ne-eqb, eqb-true, eqb-false}
 use Rattle.buffer.specs.Bytes.{bytes, part, same}
 use Rattle.buffer.specs.Table.{Maybe, none, some}
-use Rattle.buffer.proofs.Parts.{part-step, part-end}
+use Rattle.buffer.proofs.Parts.{part-step, part-snoc, part-end}
 use Rattle.paths.specs.declared.Component.{Component}
 use Rattle.paths.specs.Paths.{before-first, pieces, isDropped, kept, root, components, lastOf, slashed, joinedBySlash, fileName}
 use Rattle.paths.specs.Remaining.{remaining, beforeRest, componentsFrom, ComponentWithin}
@@ -23,15 +23,6 @@ eqb-sym a b = go (eqb a b) refl
     go false e = e ∙ sym (ne-eqb b a (λ q. eqb-false a b e (sym q)))
 
 -- ---- parts
-
--- a part with one byte more is that byte after it
-pub part-snoc : (d : List ℕ) (i j : ℕ) → i ≤ j → j < length d → part i (j + 1) d ≡ part i j d ++ (getD d j 0 ∷ [])
-part-snoc d i j h g =
-    let k : (j + 1) - i ≡ suc (j - i) = omega arith in
-    let e : i + (j - i) ≡ j = omega arith in
-    ap (λ (n : ℕ). take n (drop i d)) k
-    ∙ take-suc (drop i d) (j - i) 0 (omega (arith, length-drop i d))
-    ∙ ap (λ (b : ℕ). take (j - i) (drop i d) ++ (b ∷ [])) (getD-drop i d (j - i) 0 ∙ ap (λ (n : ℕ). getD d n 0) e)
 
 pub part-one : (d : List ℕ) (i : ℕ) → i < length d → part i (i + 1) d ≡ getD d i 0 ∷ []
 part-one d i h = part-step d i (i + 1) (omega arith) (omega arith) ∙ ap (λ (l : List ℕ). getD d i 0 ∷ l) (part-end d (i + 1))

@@ -19,3 +19,9 @@ timestamp-settled _ _ _ _ _ _ p q = (same p q, refl)
 
 builtin-settled : Settled 1 entries.pralakuon_builtin.Kinds.ps entries.pralakuon_builtin.Kinds.r entries.pralakuon_builtin.Reads.Post
 builtin-settled _ _ _ _ _ _ p q = (same (p .returned) (q .returned), past (past (past (past (here (same (p .buffer) (q .buffer)))))))
+
+visible-settled : Settled 2 entries.pralakuon_visible.Kinds.ps entries.pralakuon_visible.Kinds.r entries.pralakuon_visible.Reads.Post
+visible-settled _ _ _ _ _ _ p q = (same (p .returned) (q .returned), past (here (same (p .buffer) (q .buffer))))
+
+version-settled : Settled 0 entries.pralakuon_version.Kinds.ps entries.pralakuon_version.Kinds.r entries.pralakuon_version.Reads.Post
+version-settled _ _ _ _ _ _ p q = (same p q, refl)

@@ -5,13 +5,24 @@ use checking::names_timestamp;
 use packing::answer_in;
 use packing::pack;
 use session::session;
+use visible::visible_text;
 ghost use mathlib.Core.Path.{_≡_};
+ghost use Prim.Native.Nat.{_*_};
 ghost use lib.ListN.{length};
 ghost use Rattle.template.specs.Template.{readTemplate};
 ghost use Rattle.answer.specs.Answers.{inRoom, Meets, lineEntry};
 ghost use Rattle.checking.specs.Templates.{checkOf, timestampOf};
 ghost use Rattle.outcomes.specs.Program.{sessionEntry};
 ghost use Rattle.builtin.specs.Choices.{chosen};
+ghost use Rattle.visible.specs.Visible.{visibleEntry};
+ghost use Rattle.pralakuon_c.specs.Version.{version};
+
+// The same three numbers stand in include/pralakuon.h and in host/Cargo.toml.
+const MAJOR: u64 = 0;
+
+const MINOR: u64 = 2;
+
+const PATCH: u64 = 0;
 
 // The line of the record d by the template t.
 #[no_mangle]
@@ -59,4 +70,20 @@ pub extern "C" fn pralakuon_builtin(
     let room = out.len();
     let n = put_chosen(style, location, timestamp, host, out);
     pack(answer_in(room, n))
+}
+
+// What is visible of the text s.
+#[no_mangle]
+pub extern "C" fn pralakuon_visible(s: &[u8], out: &mut [u8]) -> u64
+    ensures { λ r. ⌜ Meets (visibleEntry (now (s .entry)) (now (out .entry))) (now (out .entry)) (now (out .exit)) r ⌝ }
+{
+    pack(visible_text(s, out))
+}
+
+// Which version this is: a caller that was made for another must not call on.
+#[no_mangle]
+pub extern "C" fn pralakuon_version() -> u64
+    ensures { λ r. ⌜ r ≡ 256 * version ⌝ }
+{
+    256 * (65536 * MAJOR + 256 * MINOR + PATCH)
 }

@@ -1,11 +1,12 @@
 -- Laws of the search that only code needs: tests of a byte, texts without byte 27, padding. Assumes nothing.
-use mathlib.Core.Path.{_≡_, ap, sym, subst}
-use mathlib.Core.Bool.{true, false}
+use mathlib.Core.Path.{_≡_, refl, ap, sym, subst, _∙_}
+use mathlib.Core.Bool.{Bool, true, false}
 use mathlib.Core.List.{List}
 use Prim.Native.Nat.{ℕ, suc, _+_, _-_, _<_, _≤_}
 use native.Mathlib.Omega.{arith}
 use lib.ListN.{length, drop, getD, replicate, drop-of-length-le}
-use borrow.Author.Tests.{ne-eqb}
+use lib.Dec.{leb}
+use borrow.Author.Tests.{ne-eqb, leb-true, leb-false}
 use Rattle.utf8.specs.Utf8.{within}
 use Rattle.buffer.proofs.Parts.{drop-step}
 use Rattle.utf8.proofs.Ranges.{within-in, within-below, within-above}
@@ -36,6 +37,14 @@ in-below b h = rw (within-below 0x30 0x39 b h, ne-eqb b 0x3B (λ e. omega arith)
 pub in-above : (b : ℕ) → 0x39 < b → (b ≡ 0x3B → ⊥) → inSequence b ≡ false
 unfolding inSequence digit
 in-above b h n = rw (within-above 0x30 0x39 b h, ne-eqb b 0x3B n)
+
+-- from `0` on, where it is not `;`
+pub in-rest : (b : ℕ) → (b ≡ 0x3B → ⊥) → 0x30 ≤ b → leb b 0x39 ≡ inSequence b
+in-rest b n l = by (leb b 0x39) refl
+  where
+    by : (x : Bool) → leb b 0x39 ≡ x → leb b 0x39 ≡ inSequence b
+    by true e = e ∙ sym (in-digit b l (leb-true b 0x39 e))
+    by false e = e ∙ sym (in-above b (leb-false b 0x39 e) n)
 
 -- ---- texts without byte 27
 

@@ -8,6 +8,7 @@ ghost use Prim.Native.Nat.{_+_, _<_, _^_};
 ghost use lib.Dec.{eqb};
 ghost use Rattle.buffer.specs.Bytes.{byte};
 ghost use Rattle.colour.specs.declared.State.the-variants.{LoneZero, Digits};
+ghost use Rattle.colour.specs.Sequences.{inSequence};
 ghost use Rattle.colour.specs.Machine.{actAmong, actOf, moved};
 
 pub mod skipping;
@@ -53,16 +54,23 @@ fn among(ending: Act, onward: State, b: u8) -> Act
     if b == b'm' {
         return ending;
     }
-    if b == b';' {
-        return Act::More(onward);
-    }
-    if b < b'0' {
-        return Act::Text;
-    }
-    if b <= b'9' {
+    if in_sequence(b) {
         return Act::More(onward);
     }
     Act::Text
+}
+
+// Whether b is a digit or `;`.
+pub fn in_sequence(b: u8) -> bool
+    ensures { λ r. ⌜ r ≡ inSequence b ⌝ }
+{
+    if b == b';' {
+        return true;
+    }
+    if b < b'0' {
+        return false;
+    }
+    b <= b'9'
 }
 
 // The search after one byte more.

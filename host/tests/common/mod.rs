@@ -19,7 +19,7 @@ pub fn line_of<'r>(template: &[u8], settings: Settings, record: impl Into<RawRec
 
 /// A device's INFO record with the message `hello`.
 pub fn hello() -> RawRecord<'static> {
-    RawRecord { level: 3, message: b"hello", ..RawRecord::default() }
+    RawRecord::new().with_level(3).with_message(b"hello")
 }
 
 /// The body of a device's INFO record, laid out by hand.
@@ -53,12 +53,10 @@ pub fn printed(sheet: &[u8]) -> Vec<u8> {
     session(sheet).unwrap_or_else(|refusal| told(refusal.number()))
 }
 
-/// What is seen of a line whose only bytes 27 are those of colour: all but the sequences from there to `m`.
-pub fn visible(line: &str) -> String {
-    let mut parts = line.split('\x1b');
-    let mut seen = parts.next().unwrap_or("").to_string();
-    for part in parts {
-        seen.push_str(part.split_once('m').expect("a colour sequence ends with m").1);
+/// What the program prints for a record: its line, or its refusal.
+pub fn printed_alone(line: Result<Vec<u8>, Refusal>) -> Vec<u8> {
+    match line {
+        Ok(line) => [&line[..], b"\n"].concat(),
+        Err(refusal) => told(refusal.number()),
     }
-    seen
 }

@@ -50,6 +50,11 @@ pub fn built_in(choice: [u8; 4], owed: &[u8], more: usize) -> Held {
         .map_err(|parting| format!("builtin, {parting}"))
 }
 
+pub fn visible(text: &[u8], owed: Vec<u8>, more: usize) -> Held {
+    hold(&Owed::Line(owed), &[text], more, |lent, out| entries::visible(lent[0].part(), out))
+        .map_err(|parting| format!("visible of \"{}\", {parting}", text.escape_ascii()))
+}
+
 pub fn check(template: &[u8], refusal: Option<u8>) -> Held {
     asked(template, entries::check, refusal.map_or(0, u64::from)).map_err(|parting| format!("check, {parting}"))
 }

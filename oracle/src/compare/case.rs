@@ -3,7 +3,7 @@
 use super::calls::{self, Owed};
 use super::listed::Listed;
 use super::ruled::Ruled;
-use crate::ruling;
+use crate::ruling::{self, line::without_sequences};
 use crate::sheet::{Record, Sheet, COLOUR, STRAIGHT};
 use crate::stub::format;
 use crate::tree::dump;
@@ -19,6 +19,8 @@ pub enum Case {
     Sheet(Vec<u8>),
     /// Style, location, timestamp, host.
     BuiltIn([u8; 4]),
+    /// Any bytes, of which the visible ones are asked for.
+    Text(Vec<u8>),
 }
 
 /// What came up on the way.
@@ -56,10 +58,16 @@ impl Case {
                 if sheet.as_ref().map_or(false, Sheet::colour) != colour {
                     return Ok(());
                 }
-                calls::session(bytes, &session(sheet.as_ref(), seen)?, more)
+                let owed = session(sheet.as_ref(), seen)?;
+                calls::session(bytes, &owed, more)?;
+                match owed {
+                    Owed::Line(lines) if colour => compare_visible(&lines, more),
+                    _ => Ok(()),
+                }
             }
             Case::BuiltIn(choice) if !colour => compare_built_in(*choice, more),
-            Case::BuiltIn(_) => Ok(()),
+            Case::Text(text) if !colour => compare_visible(text, more),
+            Case::BuiltIn(_) | Case::Text(_) => Ok(()),
         }
     }
 }
@@ -80,8 +88,20 @@ fn compare_line(
         let settings = if colour { mode | COLOUR } else { mode };
         calls::line(template, settings, bytes, owed, more)?;
         seen.add(owed);
+        match owed {
+            Owed::Line(line) if colour => compare_visible(line, more)?,
+            _ => {}
+        }
     }
     Ok(())
+}
+
+/// The ruling knows texts only. A sequence is ASCII, so that any bytes may be given to it as the characters of the same
+/// numbers.
+fn compare_visible(text: &[u8], more: usize) -> Result<(), String> {
+    let characters: String = text.iter().copied().map(char::from).collect();
+    let owed = without_sequences(&characters).chars().map(|character| character as u8).collect();
+    calls::visible(text, owed, more)
 }
 
 /// What a session call owes: a refusal of the whole sheet, or the lines of its records.
@@ -134,6 +154,7 @@ impl fmt::Display for Case {
             }
             Case::Sheet(bytes) => write!(f, "  sheet: \"{}\"", bytes.escape_ascii()),
             Case::BuiltIn(choice) => write!(f, "  style, location, timestamp, host: {choice:?}"),
+            Case::Text(text) => write!(f, "  text: \"{}\"", text.escape_ascii()),
         }
     }
 }

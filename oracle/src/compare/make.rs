@@ -6,17 +6,21 @@ mod edges;
 mod records;
 mod sheets;
 mod short;
+mod texts;
 
 use super::case::Case;
 use crate::sample::cases;
 use crate::sample::random::Rng;
 use crate::sheet::{Record, Sheet};
 
-pub const KINDS: [&str; 6] = ["short templates", "long templates", "records", "sheets", "boundaries", "built-ins"];
+pub const KINDS: [&str; 7] =
+    ["short templates", "long templates", "records", "sheets", "boundaries", "built-ins", "texts"];
 
 /// Places in `KINDS`. Short templates are cheap, and so many turns show all of up to five tokens in ten million cases.
-const TURNS: [usize; 32] =
-    [0, 1, 0, 2, 0, 3, 0, 0, 1, 0, 2, 0, 4, 0, 0, 1, 0, 2, 0, 0, 1, 0, 2, 0, 3, 0, 0, 1, 0, 2, 5, 0];
+const TURNS: [usize; 64] = [
+    0, 1, 0, 2, 0, 3, 0, 0, 1, 0, 2, 0, 4, 0, 0, 1, 0, 2, 0, 0, 1, 0, 2, 0, 3, 0, 0, 1, 0, 2, 5, 0, //
+    0, 1, 0, 2, 0, 3, 0, 0, 1, 0, 2, 0, 4, 0, 0, 1, 0, 2, 0, 0, 1, 0, 2, 0, 3, 0, 0, 1, 0, 2, 6, 0,
+];
 
 /// Settings bytes with a bit that is not known.
 const UNKNOWN: &[&u8] = &[&4, &5, &6, &7, &8, &16, &32, &64, &128, &129, &131, &252, &255];
@@ -48,7 +52,8 @@ impl Maker {
             2 => record(&mut rng),
             3 => Case::Sheet(sheets::sheet(&mut rng)),
             4 => self.boundary(&mut rng, nth as usize),
-            _ => Case::BuiltIn(built_in(&mut rng, nth)),
+            5 => Case::BuiltIn(built_in(&mut rng, nth)),
+            _ => Case::Text(texts::text(&mut rng)),
         };
         (kind, case)
     }

@@ -32,6 +32,7 @@ fn print() {
     println!("| `pralakuon_session` | {} |", most(&sheets, |sheet| entries::session(sheet, &mut out)));
     println!("| `pralakuon_check` | {} |", most(&templates, entries::check));
     println!("| `pralakuon_timestamp` | {} |", most(&templates, entries::timestamp));
+    println!("| `pralakuon_visible` | {} |", most(&templates, |text| entries::visible(text, &mut out)));
     println!("| `pralakuon_builtin` | {} |", most(&[vec![]], |_| entries::builtin(1, 1, 1, 1, &mut out)));
 }
 

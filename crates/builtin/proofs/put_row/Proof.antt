@@ -9,7 +9,7 @@ use Rattle.buffer.specs.Bytes.{part}
 use Rattle.buffer.specs.Buffer.{putAt}
 use Rattle.builtin.specs.Rows.{rowText}
 use native.Mathlib.Nat.{zero-add}
-use Rattle.builtin.proofs.Fitting.{written-fits, written-not}
+use Rattle.buffer.proofs.Fitting.{written-fits, written-not}
 use Rattle.builtin.proofs.Rule.{table, starts, lengths, row}
 use Rattle.builtin.proofs.put_row.Statement.{statement}
 use Rattle.builtin.proofs.put_row.Tie as tie

@@ -8,7 +8,7 @@ use lib.ListN.{length, length-append}
 use Rattle.buffer.specs.Bytes.{bytes}
 use Rattle.buffer.proofs.Writing.{join}
 use Rattle.builtin.specs.Rows.{rowText}
-use Rattle.builtin.proofs.Fitting.{written-fits, written-not}
+use Rattle.buffer.proofs.Fitting.{written-fits, written-not}
 use Rattle.builtin.proofs.put_row_for_host.Statement.{statement}
 use Rattle.builtin.proofs.put_row_for_host.Tie as tie
 

@@ -22,15 +22,15 @@ array-share-prefix-line c =
     let p = c .before .before .before .before .before .args in
     omega (arith, c .before .put-record .ensures .0, line-most (p .d .now) (chainAt (p .cells .now) (p .n)) (p .i) (p .j))
 
-slice-aggregate-write-all : tie.Need-slice-aggregate-write-all
-slice-aggregate-write-all c =
+slice-aggregate-written : tie.Need-slice-aggregate-written
+slice-aggregate-written c =
     let put = c .before .before in
     let p = put .before .before .before .before .args in
     let m = line-most (p .d .now) (chainAt (p .cells .now) (p .n)) (p .i) (p .j) in
     sym (length-take-le (put .put-record .result) _ (omega (arith, put .put-record .ensures .0, m, c .before .line2 .given)))
 
-write-all-requires : tie.Need-write-all-requires
-write-all-requires c κs = search needs
+written-requires : tie.Need-written-requires
+written-requires c κs = search needs
 
 returns : tie.Need-returns
 returns c = search needs
@@ -42,6 +42,6 @@ write-record-spec =
     slice-aggregate-put-record
     put-record-requires
     array-share-prefix-line
-    slice-aggregate-write-all
-    write-all-requires
+    slice-aggregate-written
+    written-requires
     returns)

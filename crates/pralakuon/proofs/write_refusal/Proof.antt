@@ -17,12 +17,15 @@ array-share-prefix-line : tie.Need-array-share-prefix-line
 array-share-prefix-line c =
     omega (arith, c .before .put-refusal .ensures .0, refusal-most (c .before .before .before .args .r))
 
-slice-aggregate-write-all : tie.Need-slice-aggregate-write-all
-slice-aggregate-write-all c =
+slice-aggregate-written : tie.Need-slice-aggregate-written
+slice-aggregate-written c =
     sym (length-take-le (c .before .before .put-refusal .result) _ (omega (arith, c .before .before .put-refusal .ensures .0, refusal-most (c .before .before .before .before .args .r), c .before .line2 .given)))
 
-write-all-requires : tie.Need-write-all-requires
-write-all-requires c κs = search needs
+written-requires : tie.Need-written-requires
+written-requires c κs = search needs
+
+explain-requires : tie.Need-explain-requires
+explain-requires c κs = search needs
 
 returns : tie.Need-returns
 returns c = search needs
@@ -34,6 +37,7 @@ write-refusal-spec =
     slice-aggregate-put-refusal
     put-refusal-requires
     array-share-prefix-line
-    slice-aggregate-write-all
-    write-all-requires
+    slice-aggregate-written
+    written-requires
+    explain-requires
     returns)

@@ -4,11 +4,10 @@ use native.Mathlib.Omega.{arith}
 use lib.ListN.{length}
 use Rattle.answer.specs.Answers.{inRoom}
 use Rattle.packing.specs.Packing.{packedAnswer, answerIn, Packable}
-use Rattle.answer.proofs.Answering.{answer-in-room, packed-answer}
+use Rattle.answer.proofs.Answering.{answer-in-room, buffer-in-room, packed-answer}
 use Rattle.packing.proofs.Rooms.{packable-in}
 use Rattle.builtin.specs.Choices.{chosen}
 use Rattle.builtin.proofs.Choices.{chosen-short}
-use Rattle.pralakuon_c.proofs.Written.{written-in-room}
 use borrow.Author.Needs.{needs}
 use Rattle.pralakuon_c.proofs.pralakuon_builtin.Statement.{statement}
 use Rattle.pralakuon_c.proofs.pralakuon_builtin.Tie as tie
@@ -35,7 +34,7 @@ returns c =
     let n = c .before .before .before .before .put-chosen in
     let x = chosen (p .style) (p .location) (p .timestamp) (p .host) in
     let a = c .before .answer-in .ensures ∙ ap (answerIn (length d)) (n .ensures .0) ∙ answer-in-room (length d) x in
-    record { returned = c .pack .ensures ∙ ap packedAnswer a ∙ packed-answer (inRoom (length d) x); buffer = n .ensures .1 ∙ written-in-room d x }
+    record { returned = c .pack .ensures ∙ ap packedAnswer a ∙ packed-answer (inRoom (length d) x); buffer = n .ensures .1 ∙ buffer-in-room d x }
 
 pub pralakuon-builtin-spec : {M : Type 1} → statement M
 pralakuon-builtin-spec =

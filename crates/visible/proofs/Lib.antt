@@ -1,0 +1,4 @@
+-- Laws that proofs of this layer cite.
+pub mod Sequences
+pub mod Stretches
+pub mod Outcomes

@@ -1,0 +1,78 @@
+//! Shows the line of a record by a template: `host/try` says how it is called.
+
+use pralakuon::{line, Level, RawRecord, Refusal, Settings};
+use std::process::ExitCode;
+
+const MODES: [(&str, Settings); 3] = [
+    ("plain", Settings::PLAIN),
+    ("straight colour", Settings::STRAIGHT_COLOUR),
+    ("the crate's colour", Settings::CRATE_COLOUR),
+];
+
+fn main() -> ExitCode {
+    let words: Vec<String> = std::env::args().skip(1).collect();
+    let shown = match words.split_first() {
+        Some((template, keys)) => record(keys).and_then(|record| show(template, record)),
+        None => Err("a template is needed".to_string()),
+    };
+    match shown {
+        Ok(()) => ExitCode::SUCCESS,
+        Err(wrong) => {
+            eprintln!("host/try: {wrong}");
+            ExitCode::FAILURE
+        }
+    }
+}
+
+fn record(keys: &[String]) -> Result<RawRecord<'_>, String> {
+    let mut record = RawRecord::new().with_level(Level::Info.number()).with_message(b"hello");
+    for key in keys {
+        let (name, value) = key.split_once('=').ok_or_else(|| format!("no KEY=VALUE: {key}"))?;
+        let bytes = value.as_bytes();
+        record = match name {
+            "level" => record.with_level(level(value)?),
+            "message" => record.with_message(bytes),
+            "file" => record.with_file(bytes),
+            "line" => record.with_line(value.parse().map_err(|_| format!("no line number: {value}"))?),
+            "module" => record.with_module_path(bytes),
+            "time" => record.with_timestamp(bytes),
+            "source" if value == "host" => record.with_source(RawRecord::HOST),
+            "source" if value == "device" => record.with_source(RawRecord::DEVICE),
+            _ => return Err(format!("unknown: {key} (keys: level message file line module time source)")),
+        };
+    }
+    Ok(record)
+}
+
+/// A name, or a number: 0 is a print.
+fn level(value: &str) -> Result<u8, String> {
+    value.parse().or_else(|_| value.parse::<Level>().map(Level::number).map_err(|unknown| unknown.to_string()))
+}
+
+fn show(template: &str, record: RawRecord) -> Result<(), String> {
+    let mut longest = 0;
+    for (name, settings) in MODES {
+        let made = made(template, settings, record).map_err(|refusal| refusal.to_string())?;
+        if settings == Settings::PLAIN {
+            longest = made.chars().count();
+            println!("{:20}{}", "", ruler(longest));
+        }
+        println!("{name:20}{}", made.replace('\x1b', "ESC"));
+    }
+    println!("{:20}{longest} characters in the plain line", "");
+    Ok(())
+}
+
+fn made(template: &str, settings: Settings, record: RawRecord) -> Result<String, Refusal> {
+    let mut out = vec![0; 4_096];
+    if let Err(Refusal::LineTooLong { needed }) = line(template.as_bytes(), settings, record, &mut out) {
+        out.resize(needed, 0);
+    }
+    let length = line(template.as_bytes(), settings, record, &mut out)?;
+    Ok(String::from_utf8_lossy(&out[..length]).into_owned())
+}
+
+/// Columns count from 1: `....5....|` ten by ten.
+fn ruler(length: usize) -> String {
+    "....5....|".chars().cycle().take(length).collect()
+}

@@ -1,0 +1,110 @@
+//! The examples of docs/GUIDE.md: each is run, and prints what the guide says.
+
+use pralakuon::entries;
+
+const GUIDE: &str = include_str!("../../docs/GUIDE.md");
+
+/// A word of the guide: `x*3` is `xxx`, `{s}*2` is `{s}{s}`, `xff` is the byte 255, `ESC` the byte 27.
+fn spelled(word: &str) -> Vec<u8> {
+    if word == "xff" {
+        return vec![0xff];
+    }
+    let mut bytes = Vec::new();
+    let mut rest = word.replace("ESC", "\x1b");
+    while let Some(star) = rest.find('*') {
+        let digits = rest[star + 1..].bytes().take_while(u8::is_ascii_digit).count();
+        let count: usize = rest[star + 1..star + 1 + digits].parse().expect("a number after *");
+        // what is repeated: a letter, or braces
+        let from = if rest[..star].ends_with('}') { rest[..star].rfind('{').expect("a brace") } else { star - 1 };
+        bytes.extend(rest[..from].bytes());
+        bytes.extend(rest[from..star].repeat(count).bytes());
+        rest = rest[star + 1 + digits..].to_string();
+    }
+    bytes.extend(rest.bytes());
+    bytes
+}
+
+/// What a line `# level=INFO message=hello ..` says of the record, and the settings.
+struct Told {
+    settings: u8,
+    numbers: [u8; 2],
+    line: Option<u32>,
+    texts: [Option<Vec<u8>>; 4],
+}
+
+fn told(line: &str) -> Told {
+    let mut told = Told { settings: 0, numbers: [0, 0], line: None, texts: [None, None, None, None] };
+    for pair in line.split_whitespace() {
+        let (key, value) = pair.split_once('=').expect("KEY=VALUE");
+        match key {
+            "settings" => told.settings = value.parse().unwrap(),
+            "source" => told.numbers[0] = u8::from(value == "host"),
+            "level" => {
+                let names = ["0", "ERROR", "WARN", "INFO", "DEBUG", "TRACE", "6"];
+                told.numbers[1] = names.iter().position(|name| *name == value).expect("a level") as u8;
+            }
+            "line" => told.line = Some(value.parse().unwrap()),
+            "file" => told.texts[0] = Some(spelled(value)),
+            "module" => told.texts[1] = Some(spelled(value)),
+            "time" => told.texts[2] = Some(spelled(value)),
+            "message" => told.texts[3] = Some(spelled(value)),
+            _ => panic!("the guide says {key} of a record"),
+        }
+    }
+    told
+}
+
+/// The record, laid out as the guide's table says.
+fn laid_out(told: &Told) -> Vec<u8> {
+    let bit = |present: bool, bit| if present { bit } else { 0 };
+    let mask = bit(told.texts[0].is_some(), 1) + bit(told.line.is_some(), 2) + bit(told.texts[1].is_some(), 4);
+    let mut bytes = vec![told.numbers[0], told.numbers[1], mask];
+    bytes.extend(told.line.unwrap_or(0).to_le_bytes());
+    let texts: Vec<&[u8]> = told.texts.iter().map(|text| text.as_deref().unwrap_or_default()).collect();
+    for text in &texts {
+        bytes.extend((text.len() as u16).to_le_bytes());
+    }
+    bytes.extend(texts.concat());
+    bytes
+}
+
+/// What the archive answers: the line, or `! N`.
+fn answered(told: &Told, template: &[u8]) -> Vec<u8> {
+    let mut out = vec![0; 10_000];
+    let answer = entries::line(template, told.settings, &laid_out(told), &mut out);
+    match entries::refusal_of(answer) {
+        0 => out[..entries::length_of(answer)].to_vec(),
+        number => format!("! {number}").into_bytes(),
+    }
+}
+
+#[test]
+fn every_example_prints_what_the_guide_says() {
+    let mut record = told("level=INFO message=hello");
+    let mut inside = false;
+    let mut count = 0;
+    let mut wrong = Vec::new();
+    for (number, line) in GUIDE.lines().enumerate() {
+        if line.starts_with("```") {
+            inside = line == "```lines";
+            continue;
+        }
+        if !inside {
+            continue;
+        }
+        if let Some(said) = line.strip_prefix("# ") {
+            record = told(said);
+            continue;
+        }
+        let (template, expected) = line.split_once("=>  ").expect("TEMPLATE => LINE");
+        let template = spelled(template.trim_end());
+        let line = answered(&record, &template);
+        let (line, expected) = (String::from_utf8_lossy(&line).into_owned(), spelled(expected));
+        if line != String::from_utf8_lossy(&expected) {
+            wrong.push(format!("docs/GUIDE.md, line {}: prints {line:?}", number + 1));
+        }
+        count += 1;
+    }
+    assert!(wrong.is_empty(), "{}", wrong.join("\n"));
+    assert!(count > 50, "only {count} examples were found");
+}
