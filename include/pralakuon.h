@@ -109,7 +109,7 @@ enum pralakuon_style {
 /* The version of this header. A caller made for MAJOR.MINOR works with every archive of the same MAJOR.MINOR. */
 #define PRALAKUON_VERSION_MAJOR 0
 #define PRALAKUON_VERSION_MINOR 2
-#define PRALAKUON_VERSION_PATCH 0
+#define PRALAKUON_VERSION_PATCH 1
 #define PRALAKUON_VERSION (65536 * PRALAKUON_VERSION_MAJOR + 256 * PRALAKUON_VERSION_MINOR + PRALAKUON_VERSION_PATCH)
 
 /* The refusal in an answer, or 0, and the length in it. */

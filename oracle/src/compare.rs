@@ -10,7 +10,7 @@ mod ruled;
 
 use crate::judge;
 use crate::stream::side_by_side;
-use case::Seen;
+use case::{Case, Seen};
 use found::Found;
 use make::Maker;
 use std::ops::Range;
@@ -29,12 +29,21 @@ const PROGRESS: u64 = 1_000_000;
 /// True where nothing parts but what is listed.
 pub fn run(count: u64, seed: u64) -> bool {
     let maker = Maker::new(seed);
+    run_over(count, |index| maker.case(index))
+}
+
+/// The same over every path of a few tokens.
+pub fn run_paths() -> bool {
+    run_over(make::path_count(), make::path_case)
+}
+
+fn run_over(count: u64, case: impl Fn(u64) -> (usize, Case) + Sync) -> bool {
     let mut found = Found::default();
     for batch in in_steps(0..count, BATCH) {
         let shares = in_steps(batch.clone(), SHARE);
         for colour in [false, true] {
             judge::set_colour(colour);
-            for part in side_by_side(&shares, |share| compare(&maker, share.clone(), colour)) {
+            for part in side_by_side(&shares, |share| compare(&case, share.clone(), colour)) {
                 found.add(part);
             }
         }
@@ -50,10 +59,10 @@ fn in_steps(range: Range<u64>, step: u64) -> Vec<Range<u64>> {
     range.step_by(step as usize).map(|from| from..(from + step).min(end)).collect()
 }
 
-fn compare(maker: &Maker, share: Range<u64>, colour: bool) -> Found {
+fn compare(case: &impl Fn(u64) -> (usize, Case), share: Range<u64>, colour: bool) -> Found {
     let mut found = Found::default();
     for index in share {
-        let (kind, case) = maker.case(index);
+        let (kind, case) = case(index);
         let more = 1 + (index % 61) as usize;
         let mut seen = Seen::default();
         if let Err(parting) = case.compare(colour, more, &mut seen) {

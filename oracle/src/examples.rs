@@ -161,7 +161,7 @@ pub(crate) const PATHS: &[(&str, &str, &str)] = &[
     ("/.", "{f}{s}", "/hello"),
     ("..", "{f}{s}", "..hello"),
     ("", "{F}{s}", "hello"),
-    // parted: document 01 drops a leading `.` and gives <file> where nothing is left
+    // a `.` at the very start is a component
     ("./a", "{ff}{s}", "./ahello"),
     (".", "{f}{s}", ".hello"),
 ];

@@ -10,7 +10,6 @@ use crate::sheet::{Record, Sheet, DEVICE};
 use crate::VERSIONS;
 use cases::Case;
 use std::io;
-use std::path::Path;
 
 pub const SEED: u64 = 1;
 
@@ -49,8 +48,8 @@ Output: what the port's program prints for the sheet if its lines are the crate'
 `! 4` and a newline for the sheet; `panic` and a newline where the crate panics; `! 2` and `! 12` where it cannot be asked.
 N 0: the port prints the same.
 N 1, 2, 5 to 12: the port refuses with that number; the output is the crate's, which knows no such limit.
-N 255: no refusal, but a listed difference: a leading `.` of a path that the crate shows, a present empty file with {{f}}
-(it panics), a message that its color_diff lays out, a width with colour sequences above 65,535 (it panics).
+N 255: no refusal, but a listed difference: a present empty file with {{f}} (the crate panics), a message that its color_diff
+lays out, a width with colour sequences above 65,535 (it panics).
 
 "
     )
@@ -146,18 +145,7 @@ fn may_have_too_many(text: &str) -> bool {
 
 /// The differences of `LISTED`, but for the two that show as panics.
 fn is_listed(sheet: &Sheet) -> bool {
-    let dump = judge::segments(&sheet.template);
-    sheet.records.iter().any(|record| shows_leading_dot(&dump, record) || may_be_diff(record))
-}
-
-fn shows_leading_dot(dump: &str, record: &Record) -> bool {
-    let file = String::from_utf8_lossy(&record.file);
-    if file != "." && !file.starts_with("./") {
-        return false;
-    }
-    let components = Path::new(&*file).iter().count();
-    let counts = dump.split("sf").skip(1).filter_map(|rest| rest.split('[').next()?.parse::<usize>().ok());
-    counts.max().map_or(false, |count| count >= components)
+    sheet.records.iter().any(may_be_diff)
 }
 
 /// A host's message is never laid out.

@@ -25,7 +25,7 @@ use Rattle.record.specs.declared.Name.{Name}
 use Rattle.record.specs.declared.Name.the-variants.{Error, Warn, Info, Debug, Trace}
 use Rattle.record.specs.Records.{Given, absent, given, Record}
 use Rattle.record.specs.Levels.{levelName, nameOf}
-use Rattle.paths.specs.Paths.{before-first, pieces, isDropped, kept, root, components, lastOf, slashed, joinedBySlash, fileName, after-byte, beforeColons}
+use Rattle.paths.specs.Paths.{before-first, pieces, isDropped, kept, root, startsWithDot, leadingDot, components, lastOf, slashed, joinedBySlash, fileName, after-byte, beforeColons}
 use Rattle.fields.specs.Texts.{noCrate, noFile, noModule, noTime, orPlaceholder, there, digits, decimalText, notEmpty, timeOf, wording}
 use Rattle.fields.specs.Lines.{inFormat, messageFrom, specifierShown, segmentShown, segmentsShown, recordShown}
 use Rattle.demands.specs.Lines.{FreeGiven, FreeRecord, FreeSegment, FreeSegments}
@@ -93,9 +93,19 @@ unfolding root
 frees-root [] = tt
 frees-root (b ∷ s) = frees-root-at (eqb b 0x2F)
 
+frees-dot-at : (x : Bool) → Frees (elim x [ true ↦ bytes "." ∷ [] | false ↦ [] ])
+frees-dot-at true = (free-by-test (bytes ".") refl, tt)
+frees-dot-at false = tt
+
+frees-dot : (s : List ℕ) → Frees (leadingDot s)
+unfolding leadingDot
+frees-dot s = frees-dot-at (startsWithDot s)
+
 frees-components : (s : List ℕ) → Free s → Frees (components s)
 unfolding components
-frees-components s f = frees-append (root s) (kept (pieces s)) (frees-root s) (frees-kept (pieces s) (frees-pieces s f))
+frees-components s f =
+    let k = kept (pieces s) in
+    frees-append (root s) (leadingDot s ++ k) (frees-root s) (frees-append (leadingDot s) k (frees-dot s) (frees-kept (pieces s) (frees-pieces s f)))
 
 free-slashed : (x : List (List ℕ)) → Frees x → Free (slashed x)
 unfolding slashed

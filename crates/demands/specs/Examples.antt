@@ -92,6 +92,16 @@ examples =
     ∷ example (plain off) error (bytes "{[{L}]%bold%<9}|{s}") (prints (bytes "[ERROR]  |hello"))
     ∷ []
 
+-- document 02, E2: "Files built as ./src/a.rs print src/a.rs for `{fff}` where the crate prints ./src/a.rs"; "So `.` alone prints `.`, and a root, a dot and a name
+-- still make two components"
+abbrev pub leadingDots : List Example
+leadingDots =
+    example (plain off) (hello 3 1 (bytes "./src/a.rs")) (bytes "{fff}{s}") (prints (bytes "./src/a.rshello"))
+    ∷ example (plain off) (hello 3 1 (bytes "./src/a.rs")) (bytes "{ff}{s}") (prints (bytes "src/a.rshello"))
+    ∷ example (plain off) (hello 3 1 (bytes ".")) (bytes "{f}{s}") (prints (bytes ".hello"))
+    ∷ example (plain off) (hello 3 1 (bytes "/./a")) (bytes "{fff}{s}") (prints (bytes "//ahello"))
+    ∷ []
+
 -- ---- what the definitions say, put as the example puts it
 
 -- an outcome, put as the example puts it
@@ -122,3 +132,8 @@ expected (x ∷ rest) = x .says ∷ expected rest
 pub starred : said examples ≡ expected examples
 unfolding said expected put-as
 starred = refl
+
+-- and what the request says
+pub dotted : said leadingDots ≡ expected leadingDots
+unfolding said expected put-as
+dotted = refl

@@ -19,7 +19,8 @@ use Rattle.record.specs.declared.Name.the-variants.{Error, Warn, Info, Debug, T
 use Rattle.record.specs.Layout.{Laid}
 use Rattle.record.specs.Levels.{levelOf, nameOf}
 use Rattle.record.specs.Contents.{sourceOf, hasFile, hasModule, givenIf, recordOf}
-use Rattle.paths.specs.Paths.{before-first, pieces, isDropped, kept, root, components, lastOf, slashed, joinedBySlash, fileName, after-byte, beforeColons}
+use Rattle.paths.specs.Paths.{components, lastOf, slashed, joinedBySlash, fileName, after-byte, beforeColons}
+use Rattle.paths.proofs.Short.{slashed-first, slashed-components}
 use Rattle.fields.specs.Texts.{noCrate, noFile, noModule, noTime, orPlaceholder, there, digits, decimalText, notEmpty, timeOf, wording}
 use Rattle.leaves.specs.Places.{Short}
 
@@ -58,58 +59,21 @@ colons-within (a ∷ (b ∷ s)) = by (same (bytes "::") (a ∷ b ∷ [])) (colon
 
 -- ---- paths
 
-slashed-more : (x : List ℕ) (xs : List (List ℕ)) → length (slashed (x ∷ xs)) ≡ 1 + (length x + length (slashed xs))
-unfolding slashed
-slashed-more x xs = omega (arith, length-append x (slashed xs))
-
-first-small : (b : ℕ) (xs : List (List ℕ)) → length (slashed (before-first b xs)) ≤ length (slashed xs) + 2
-unfolding before-first slashed
-first-small b [] = omega arith
-first-small b (x ∷ xs) = omega (arith, slashed-more (b ∷ x) xs, slashed-more x xs)
-
-pieces-small : (x : List ℕ) → length (slashed (pieces x)) ≤ 2 * length x + 1
-unfolding pieces slashed
-pieces-small [] = omega arith
-pieces-small (b ∷ s) = by (eqb b 0x2F) refl (pieces-small s)
-  where
-    by : (v : Bool) → eqb b 0x2F ≡ v → length (slashed (pieces s)) ≤ 2 * length s + 1 → length (slashed (pieces (b ∷ s))) ≤ 2 * length (b ∷ s) + 1
-    by true e h = let z : length (slashed (pieces (b ∷ s))) ≡ length (slashed ([] ∷ pieces s)) = rw (e, pieces) in omega (arith, slashed-more [] (pieces s))
-    by false e h = let z : length (slashed (pieces (b ∷ s))) ≡ length (slashed (before-first b (pieces s))) = rw (e, pieces) in omega (arith, first-small b (pieces s))
-
-kept-small : (xs : List (List ℕ)) → length (slashed (kept xs)) ≤ length (slashed xs)
-unfolding kept
-kept-small [] = omega arith
-kept-small (x ∷ xs) = by (isDropped x) refl (kept-small xs)
-  where
-    by : (v : Bool) → isDropped x ≡ v → length (slashed (kept xs)) ≤ length (slashed xs) → length (slashed (kept (x ∷ xs))) ≤ length (slashed (x ∷ xs))
-    by true e h = let z : length (slashed (kept (x ∷ xs))) ≡ length (slashed (kept xs)) = rw (e, kept) in omega (arith, slashed-more x xs)
-    by false e h = let z : length (slashed (kept (x ∷ xs))) ≡ length (slashed (x ∷ kept xs)) = rw (e, kept) in omega (arith, slashed-more x xs, slashed-more x (kept xs))
-
-root-small : (x : List ℕ) (ys : List (List ℕ)) → length (slashed (root x ++ ys)) ≤ length (slashed ys) + 2
-unfolding root
-root-small [] ys = omega arith
-root-small (b ∷ s) ys = by (eqb b 0x2F) refl
-  where
-    by : (v : Bool) → eqb b 0x2F ≡ v → length (slashed (root (b ∷ s) ++ ys)) ≤ length (slashed ys) + 2
-    by true e = let z : length (slashed (root (b ∷ s) ++ ys)) ≡ length (slashed (bytes "/" ∷ ys)) = rw (e, root) in omega (arith, slashed-more (bytes "/") ys)
-    by false e = let z : length (slashed (root (b ∷ s) ++ ys)) ≡ length (slashed ys) = rw (e, root) in omega arith
-
 drop-small : (n : ℕ) (xs : List (List ℕ)) → length (slashed (drop n xs)) ≤ length (slashed xs)
 drop-small zero xs = omega arith
 drop-small (suc n) [] = omega arith
-drop-small (suc n) (x ∷ xs) = omega (arith, drop-small n xs, slashed-more x xs)
+drop-small (suc n) (x ∷ xs) = omega (arith, drop-small n xs, slashed-first x xs)
 
 joined-within : (xs : List (List ℕ)) (n : ℕ) → length (slashed xs) ≤ n → Within n (joinedBySlash xs)
 unfolding joinedBySlash
 joined-within [] n h = tt
-joined-within (x ∷ xs) n h = omega (arith, slashed-more x xs, length-append x (slashed xs))
+joined-within (x ∷ xs) n h = omega (arith, slashed-first x xs, length-append x (slashed xs))
 
-name-within : (n : ℕ) (x : List ℕ) → Within (2 * length x + 3) (fileName n x)
-unfolding fileName lastOf components
+name-within : (n : ℕ) (x : List ℕ) → Within (length x + 5) (fileName n x)
+unfolding fileName lastOf
 name-within n x =
     let xs = components x in
-    joined-within (drop (length xs - n) xs) (2 * length x + 3)
-    (omega (arith, drop-small (length xs - n) xs, root-small x (kept (pieces x)), kept-small (pieces x), pieces-small x))
+    joined-within (drop (length xs - n) xs) (length x + 5) (omega (arith, drop-small (length xs - n) xs, slashed-components x))
 
 -- ---- numbers, levels and times
 
@@ -142,7 +106,7 @@ weaker : (y : Maybe (List ℕ)) (m n : ℕ) → m ≤ n → Within m y → Withi
 weaker none m n h g = tt
 weaker (some t) m n h g = omega arith
 
--- 8,192 bytes and a few: twice the longest file, since a path by components is counted coarsely
+-- twice the longest text and a few bytes: far more than any wording has, and what is counted with it stays small
 pub wording-short : (d : Laid) → Short d → (m : LogMetadata) → length (wording (recordOf d) m) ≤ 8200
 unfolding recordOf wording decimalText
 wording-short d h CrateName =
@@ -151,7 +115,7 @@ wording-short d h CrateName =
     (weaker (beforeColons (d .modulePath)) (length (d .modulePath)) 8200 (omega (arith, h .modulePath)) (colons-within (d .modulePath))))
 wording-short d h (FileName n) =
     placeholder noFile (there (fileName n) (givenIf (hasFile d) (d .file))) 8200 (omega arith)
-    (there-within (fileName n) (hasFile d) (d .file) 8200 (weaker (fileName n (d .file)) (2 * length (d .file) + 3) 8200 (omega (arith, h .file)) (name-within n (d .file))))
+    (there-within (fileName n) (hasFile d) (d .file) 8200 (weaker (fileName n (d .file)) (length (d .file) + 5) 8200 (omega (arith, h .file)) (name-within n (d .file))))
 wording-short d h FilePath =
     placeholder noFile (there some (givenIf (hasFile d) (d .file))) 8200 (omega arith)
     (there-within some (hasFile d) (d .file) 8200 (omega (arith, h .file)))

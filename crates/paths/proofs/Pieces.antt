@@ -1,9 +1,10 @@
 -- Laws of a path's pieces and components, place by place. Assumes nothing.
 use mathlib.Core.Path.{_≡_, refl, ap, sym, _∙_, subst}
-use mathlib.Core.Bool.{Bool, true, false}
+use mathlib.Core.Bool.{Bool, true, false, _&&_}
 use mathlib.Core.List.{List, [], _∷_, _++_, append-nil}
 use Prim.Native.Nat.{ℕ, suc, _+_, _-_, _<_, _≤_}
 use native.Mathlib.Omega.{arith}
+use native.Mathlib.Decide.{decLt}
 use lib.Dec.{eqb}
 use lib.ListN.{length, take, drop, getD}
 use lib.Seq.{append-snoc, drop-nil}
@@ -12,7 +13,7 @@ use Rattle.buffer.specs.Bytes.{bytes, part, same}
 use Rattle.buffer.specs.Table.{Maybe, none, some}
 use Rattle.buffer.proofs.Parts.{part-step, part-snoc, part-end}
 use Rattle.paths.specs.declared.Component.{Component}
-use Rattle.paths.specs.Paths.{before-first, pieces, isDropped, kept, root, components, lastOf, slashed, joinedBySlash, fileName}
+use Rattle.paths.specs.Paths.{before-first, pieces, isDropped, kept, root, startsWithDot, leadingDot, components, lastOf, slashed, joinedBySlash, fileName}
 use Rattle.paths.specs.Remaining.{remaining, beforeRest, componentsFrom, ComponentWithin}
 
 pub eqb-sym : (a b : ℕ) → eqb a b ≡ eqb b a
@@ -157,24 +158,97 @@ root-slash : (b : ℕ) (s : List ℕ) → b ≡ 0x2F → root (b ∷ s) ≡ (b �
 unfolding root
 root-slash b s h = rw (eq-eqb b 0x2F h, root) (ap (λ (x : ℕ). (x ∷ []) ∷ []) (sym h))
 
+-- a `.` at the very start, or none
+dot-first : (s : List ℕ) → startsWithDot s ≡ true → leadingDot s ≡ bytes "." ∷ []
+unfolding leadingDot
+dot-first s e = rw (e, leadingDot)
+
+dot-none : (s : List ℕ) → startsWithDot s ≡ false → leadingDot s ≡ []
+unfolding leadingDot
+dot-none s e = rw (e, leadingDot)
+
+-- what begins with another byte does not begin with a dot
+other-no-dot : (b : ℕ) (s : List ℕ) → (b ≡ 0x2E → ⊥) → startsWithDot (b ∷ s) ≡ false
+unfolding startsWithDot
+other-no-dot b [] h = ne-eqb b 0x2E h
+other-no-dot b (c ∷ s) h = rw (ne-eqb b 0x2E h)
+
+both-true : (x y : Bool) → (x && y) ≡ true → (x ≡ true) × (y ≡ true)
+both-true true y e = (refl, e)
+both-true false y e = (e, absurd (let z : _≡_ {A = ℕ} 0 1 = cc in let w : ⊥ = omega arith in w))
+
 pub components-empty : (d : List ℕ) (i e : ℕ) → e ≤ i → components (part i e d) ≡ []
-unfolding components root pieces kept isDropped same
+unfolding components root startsWithDot leadingDot pieces kept isDropped same
 components-empty d i e h = ap components (part-none d i e h)
 
 module _ (d : List ℕ) (i e : ℕ) (h : i < e) (g : e ≤ length d) where
+  -- whether a path begins with a dot, by its first bytes
+  pub no-dot : (getD d i 0 ≡ 0x2E → ⊥) → startsWithDot (part i e d) ≡ false
+  no-dot n = ap startsWithDot (part-step d i e h g) ∙ other-no-dot (getD d i 0) (part (i + 1) e d) n
+
+  pub lone-dot : getD d i 0 ≡ 0x2E → e ≡ i + 1 → startsWithDot (part i e d) ≡ true
+  unfolding startsWithDot
+  lone-dot b k = ap (λ (n : ℕ). startsWithDot (part i n d)) k ∙ ap startsWithDot (part-one d i (omega arith)) ∙ eq-eqb (getD d i 0) 0x2E b
+
+  pub dot-then : getD d i 0 ≡ 0x2E → i + 1 < e → eqb (getD d (i + 1) 0) 0x2F ≡ startsWithDot (part i e d)
+  unfolding startsWithDot
+  dot-then b k = sym (ap startsWithDot (part-two d i e k g) ∙ rw (eq-eqb (getD d i 0) 0x2E b))
+
   pub components-rooted : getD d i 0 ≡ 0x2F → components (part i e d) ≡ part i (i + 1) d ∷ remaining (i + 1) e d
   unfolding components remaining
   components-rooted s =
-      ap (λ (l : List ℕ). root l ++ kept (pieces (part i e d))) (part-step d i e h g)
+      ap (λ (l : List (List ℕ)). root (part i e d) ++ (l ++ kept (pieces (part i e d))))
+      (dot-none (part i e d) (no-dot (λ z. omega (arith, s, z))))
+      ∙ ap (λ (l : List ℕ). root l ++ kept (pieces (part i e d))) (part-step d i e h g)
       ∙ ap (λ (l : List (List ℕ)). l ++ kept (pieces (part i e d))) (root-slash (getD d i 0) (part (i + 1) e d) s)
       ∙ ap (λ (l : List ℕ). l ∷ kept (pieces (part i e d))) (sym (part-one d i (omega arith)))
       ∙ ap (λ (l : List (List ℕ)). part i (i + 1) d ∷ l) (remaining-slash d i e h g s)
 
-  pub components-plain : (getD d i 0 ≡ 0x2F → ⊥) → components (part i e d) ≡ remaining i e d
+  pub components-plain : (getD d i 0 ≡ 0x2F → ⊥) → startsWithDot (part i e d) ≡ false → components (part i e d) ≡ remaining i e d
   unfolding components remaining
-  components-plain s =
-      ap (λ (l : List ℕ). root l ++ kept (pieces (part i e d))) (part-step d i e h g)
+  components-plain s n =
+      ap (λ (l : List (List ℕ)). root (part i e d) ++ (l ++ kept (pieces (part i e d)))) (dot-none (part i e d) n)
+      ∙ ap (λ (l : List ℕ). root l ++ kept (pieces (part i e d))) (part-step d i e h g)
       ∙ ap (λ (l : List (List ℕ)). l ++ kept (pieces (part i e d))) (root-none (getD d i 0) (part (i + 1) e d) s)
+
+  open-remaining : kept (pieces (part i e d)) ≡ remaining i e d
+  unfolding remaining
+  open-remaining = refl
+
+  -- a path that begins with a dot: what the byte is, and what follows it
+  dot-begins : startsWithDot (part i e d) ≡ true → (getD d i 0 ≡ 0x2E) × (qs : List (List ℕ)) × (pieces (part (i + 1) e d) ≡ [] ∷ qs)
+  unfolding startsWithDot
+  dot-begins t =
+      elim (decLt (i + 1) e) [
+        | yes y ↦
+            let f = part-two d i e y g in
+            let b = both-true (eqb (getD d i 0) 0x2E) (eqb (getD d (i + 1) 0) 0x2F) (sym (ap startsWithDot f) ∙ t) in
+            (eqb-true _ _ (b .0), pieces (part (i + 1 + 1) e d), pieces-slash d e g (i + 1) y (eqb-true _ _ (b .1)))
+        | no y ↦
+            let k : e ≡ i + 1 = omega arith in
+            let f : part i e d ≡ getD d i 0 ∷ [] = ap (λ (n : ℕ). part i n d) k ∙ part-one d i (omega arith) in
+            (eqb-true _ _ (sym (ap startsWithDot f) ∙ t), [], pieces-end d (i + 1) e (omega arith))
+      ]
+
+  -- it is dropped where the pieces are looked through
+  remaining-dot : startsWithDot (part i e d) ≡ true → remaining i e d ≡ remaining (i + 1) e d
+  remaining-dot t =
+      let b = dot-begins t in
+      let n : getD d i 0 ≡ 0x2F → ⊥ = λ z. omega (arith, b .0, z) in
+      remaining-piece d i (i + 1) e (b .1) (piece-begins d e g i h n) (b .2)
+      ∙ is-dropped (part i (i + 1) d) (remaining (i + 1) e d) (sym (dot-alone d i (i + 1) (omega arith) refl) ∙ eq-eqb (getD d i 0) 0x2E (b .0))
+
+  pub components-dotted : startsWithDot (part i e d) ≡ true → components (part i e d) ≡ part i (i + 1) d ∷ remaining (i + 1) e d
+  unfolding components
+  components-dotted t =
+      let b = dot-begins t .0 in
+      let k = kept (pieces (part i e d)) in
+      ap (λ (l : List (List ℕ)). root (part i e d) ++ (l ++ k)) (dot-first (part i e d) t)
+      ∙ ap (λ (l : List ℕ). root l ++ (bytes "." ∷ k)) (part-step d i e h g)
+      ∙ ap (λ (l : List (List ℕ)). l ++ (bytes "." ∷ k)) (root-none (getD d i 0) (part (i + 1) e d) (λ z. omega (arith, b, z)))
+      ∙ ap (λ (x : ℕ). (x ∷ []) ∷ k) (sym b)
+      ∙ ap (λ (l : List ℕ). l ∷ k) (sym (part-one d i (omega arith)))
+      ∙ ap (λ (l : List (List ℕ)). part i (i + 1) d ∷ l) (open-remaining ∙ remaining-dot t)
 
 -- ---- the last components
 

@@ -10,7 +10,7 @@ use lib.ListN.{length, getD}
 use borrow.Author.Tests.{eq-eqb, ne-eqb}
 use Rattle.buffer.specs.Bytes.{byte, part}
 use Rattle.paths.specs.declared.Component.{Component}
-use Rattle.paths.specs.Paths.{isDropped}
+use Rattle.paths.specs.Paths.{isDropped, startsWithDot}
 use Rattle.paths.specs.Remaining.{endFrom, nextFrom, firstFrom, afterFrom}
 use Rattle.paths.proofs.Pieces.{longer}
 
@@ -75,9 +75,19 @@ pub first-slash : (m k : ℕ) (d : List ℕ) (i : ℕ) → m ≡ suc k → getD 
 unfolding firstFrom
 first-slash m k d i e s = ap (λ (n : ℕ). firstFrom n d i) e ∙ rw (eq-eqb (getD d i 0) 0x2F s, firstFrom)
 
-pub first-plain : (m k : ℕ) (d : List ℕ) (i : ℕ) → m ≡ suc k → (getD d i 0 ≡ 0x2F → ⊥) → firstFrom m d i ≡ nextFrom m d i
-unfolding firstFrom
-first-plain m k d i e s = ap (λ (n : ℕ). firstFrom n d i) e ∙ rw (ne-eqb (getD d i 0) 0x2F s, firstFrom) (ap (λ (n : ℕ). nextFrom n d i) (sym e))
+module _ (m k : ℕ) (d : List ℕ) (i : ℕ) (e : m ≡ suc k) (s : getD d i 0 ≡ 0x2F → ⊥) where
+  -- the whole path, by its length
+  whole : (to : ℕ) → to ≡ i + m → (t : Bool) → startsWithDot (part i to d) ≡ t → startsWithDot (part i (i + suc k) d) ≡ t
+  whole to q t h = ap (λ (n : ℕ). startsWithDot (part i n d)) (let z : i + suc k ≡ to = omega (arith, e, q) in z) ∙ h
+
+  pub first-dot : (to : ℕ) → to ≡ i + m → startsWithDot (part i to d) ≡ true → firstFrom m d i ≡ Component.At i (i + 1)
+  unfolding firstFrom
+  first-dot to q h = ap (λ (n : ℕ). firstFrom n d i) e ∙ rw (ne-eqb (getD d i 0) 0x2F s, whole to q true h, firstFrom)
+
+  pub first-plain : (to : ℕ) → to ≡ i + m → startsWithDot (part i to d) ≡ false → firstFrom m d i ≡ nextFrom m d i
+  unfolding firstFrom
+  first-plain to q h =
+      ap (λ (n : ℕ). firstFrom n d i) e ∙ rw (ne-eqb (getD d i 0) 0x2F s, whole to q false h, firstFrom) (ap (λ (n : ℕ). nextFrom n d i) (sym e))
 
 -- ---- those after it
 

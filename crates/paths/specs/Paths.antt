@@ -1,7 +1,7 @@
--- Paths by components, and the crate of a module path (document 01, "Building a line"). Assumes nothing.
+-- Paths by components, and the crate of a module path (document 01, "Building a line"; document 02, E2). Assumes nothing.
 use Prim.Native.Nat.{ℕ, zero, suc, _+_, _-_}
 use mathlib.Core.Path.{_≡_, refl}
-use mathlib.Core.Bool.{Bool, true, false, _||_}
+use mathlib.Core.Bool.{Bool, true, false, _||_, _&&_}
 use mathlib.Core.List.{List, [], _∷_, _++_}
 use lib.Dec.{eqb}
 use lib.ListN.{length, drop}
@@ -20,7 +20,7 @@ unfoldable pub pieces : List ℕ → List (List ℕ)
 pieces [] = [] ∷ []
 pieces (b ∷ s) = elim (eqb b (byte "/")) [ true ↦ [] ∷ pieces s | false ↦ before-first b (pieces s) ]
 
--- "Empty components and components that are `.` are dropped"
+-- "Empty components and components that are `.` are dropped"; of the latter, document 02: "only later ones are dropped"
 unfoldable pub isDropped : List ℕ → Bool
 isDropped x = same [] x || same (bytes ".") x
 
@@ -34,9 +34,19 @@ unfoldable pub root : List ℕ → List (List ℕ)
 root [] = []
 root (b ∷ s) = elim (eqb b (byte "/")) [ true ↦ bytes "/" ∷ [] | false ↦ [] ]
 
--- the components of a path
+-- document 02: "a `.` at the very start is a component": the path is `.`, or begins with `./`
+unfoldable pub startsWithDot : List ℕ → Bool
+startsWithDot [] = false
+startsWithDot (a ∷ []) = eqb a (byte ".")
+startsWithDot (a ∷ (b ∷ s)) = eqb a (byte ".") && eqb b (byte "/")
+
+-- that component, where there is one
+unfoldable pub leadingDot : List ℕ → List (List ℕ)
+leadingDot file = elim (startsWithDot file) [ true ↦ bytes "." ∷ [] | false ↦ [] ]
+
+-- the components of a path. What is kept of the pieces has no `.`, so that a leading one is there once.
 unfoldable pub components : List ℕ → List (List ℕ)
-components file = root file ++ kept (pieces file)
+components file = root file ++ (leadingDot file ++ kept (pieces file))
 
 -- the last n
 unfoldable pub lastOf : ℕ → List (List ℕ) → List (List ℕ)
@@ -55,6 +65,25 @@ joinedBySlash (x ∷ rest) = some (x ++ slashed rest)
 -- "`{f}` repeated n times: the last n path components joined by `/`"
 unfoldable pub fileName : ℕ → List ℕ → Maybe (List ℕ)
 fileName n file = joinedBySlash (lastOf n (components file))
+
+-- document 02: "`.` alone prints `.`, and a root, a dot and a name still make two components"; and others
+dots :
+    components (bytes "./src/a.rs")
+    ∷ components (bytes ".")
+    ∷ components (bytes "././a")
+    ∷ components (bytes "/./a")
+    ∷ components (bytes "a/./.b")
+    ∷ components []
+    ∷ []
+    ≡ (bytes "." ∷ bytes "src" ∷ bytes "a.rs" ∷ [])
+    ∷ (bytes "." ∷ [])
+    ∷ (bytes "." ∷ bytes "a" ∷ [])
+    ∷ (bytes "/" ∷ bytes "a" ∷ [])
+    ∷ (bytes "a" ∷ bytes ".b" ∷ [])
+    ∷ []
+    ∷ []
+unfolding before-first pieces isDropped kept root startsWithDot leadingDot components same
+dots = refl
 
 -- ---- the crate of a module path
 

@@ -8,7 +8,7 @@ use lib.Dec.{eqb}
 use lib.ListN.{length, getD}
 use Rattle.buffer.specs.Bytes.{byte, part}
 use Rattle.paths.specs.declared.Component.{Component}
-use Rattle.paths.specs.Paths.{pieces, isDropped, kept, components, lastOf}
+use Rattle.paths.specs.Paths.{pieces, isDropped, kept, startsWithDot, components, lastOf}
 
 -- the components from place i up to place e of d
 unfoldable pub remaining : ℕ → ℕ → List ℕ → List (List ℕ)
@@ -44,10 +44,14 @@ nextFrom (suc m) d i =
       | false ↦ Component.At i (endFrom m d (i + 1))
     ]
 
--- the first component of a path, which a leading slash is
+-- the first component of a path, which a leading slash is, and a leading `.`
 unfoldable pub firstFrom : ℕ → List ℕ → ℕ → Component
 firstFrom zero d i = Component.Nothing
-firstFrom (suc m) d i = elim (eqb (getD d i 0) (byte "/")) [ true ↦ Component.At i (i + 1) | false ↦ nextFrom (suc m) d i ]
+firstFrom (suc m) d i =
+    elim (eqb (getD d i 0) (byte "/") || startsWithDot (part i (i + suc m) d)) [
+      | true ↦ Component.At i (i + 1)
+      | false ↦ nextFrom (suc m) d i
+    ]
 
 -- the component n further on than c, in a path that ends at place e
 unfoldable pub afterFrom : ℕ → Component → ℕ → List ℕ → Component

@@ -3,7 +3,7 @@ ghost use mathlib.Core.Path.{_≡_};
 ghost use Prim.Native.Nat.{_+_, _-_, _<_, _≤_};
 ghost use lib.ListN.{length, getD, drop};
 ghost use Rattle.buffer.specs.Bytes.{byte, part};
-ghost use Rattle.paths.specs.Paths.{isDropped, components};
+ghost use Rattle.paths.specs.Paths.{isDropped, startsWithDot, components};
 ghost use Rattle.paths.specs.Remaining.{remaining, beforeRest, componentsFrom, ComponentWithin, endFrom, firstFrom, afterFrom, IsNext, IsFirstShown};
 
 // A component: the place of its first byte and the place after it.
@@ -58,7 +58,7 @@ fn count_components(d: &[u8], from: usize, to: usize) -> usize
     }
 }
 
-// "A leading `/` is a component"; the path goes on after it.
+// "A leading `/` is a component", and so is a `.` at the very start; the path goes on after it.
 fn first_component(d: &[u8], from: usize, to: usize) -> Component
     requires { ⌜ (from ≤ to) × (to ≤ length (now d)) ⌝ }
     ensures { λ r. ⌜ (components (part from to (now (d .entry))) ≡ componentsFrom r to (now (d .entry))) × ComponentWithin from to r ⌝ }
@@ -70,7 +70,24 @@ fn first_component(d: &[u8], from: usize, to: usize) -> Component
     if d[from] == b'/' {
         return Component::At(from, from + 1);
     }
+    if starts_with_dot(d, from, to) {
+        return Component::At(from, from + 1);
+    }
     next_component(d, from, to)
+}
+
+// Whether the path is `.` or begins with `./`.
+fn starts_with_dot(d: &[u8], from: usize, to: usize) -> bool
+    requires { ⌜ (from < to) × (to ≤ length (now d)) ⌝ }
+    ensures { λ r. ⌜ r ≡ startsWithDot (part from to (now (d .entry))) ⌝ }
+{
+    if d[from] != b'.' {
+        return false;
+    }
+    if to == from + 1 {
+        return true;
+    }
+    d[from + 1] == b'/'
 }
 
 // The next component from the place `at` on, where the end of the one before it may stand.

@@ -6,13 +6,12 @@ use crate::tree::{names, Segment, Specifier};
 
 #[derive(Clone, Copy, Debug, PartialEq)]
 pub enum Listed {
-    LeadingDot,
     EmptyFile,
     ColourDiff,
     Width,
 }
 
-pub const NAMES: [&str; 4] = ["leading dot", "empty file", "color_diff", "width over 65,535"];
+pub const NAMES: [&str; 3] = ["empty file", "color_diff", "width over 65,535"];
 
 /// Rust's own limit.
 pub const MOST_WIDTH: usize = 65535;
@@ -21,10 +20,7 @@ pub const MOST_WIDTH: usize = 65535;
 pub fn reasons(segments: &[Segment], record: &Record, line: &Line) -> Vec<Listed> {
     let has_level = record.level > 0;
     let mut reasons = Vec::new();
-    if has_level && shows_leading_dot(segments, record) {
-        reasons.push(Listed::LeadingDot);
-    }
-    if has_level && record.file() == Some(&[]) && names_file(segments, 1) {
+    if has_level && record.file() == Some(&[]) && names_file(segments) {
         reasons.push(Listed::EmptyFile);
     }
     if record.source == DEVICE && is_diff(&String::from_utf8_lossy(&record.message)) {
@@ -41,37 +37,16 @@ pub fn without(reasons: &[Listed], record: &Record) -> Record {
     let mut record = record.clone();
     for reason in reasons {
         match reason {
-            Listed::LeadingDot => record.file = without_dots(&record.file).to_vec(),
+            Listed::EmptyFile => record.mask &= !FILE,
             Listed::ColourDiff => undo_diff(&mut record.message),
-            Listed::EmptyFile | Listed::Width => {}
+            Listed::Width => {}
         }
-    }
-    // A path of nothing but dots is an empty one now.
-    if record.file.is_empty() {
-        record.mask &= !FILE;
     }
     record
 }
 
-fn names_file(segments: &[Segment], least: usize) -> bool {
-    names(segments, &|specifier| matches!(specifier, Specifier::FileName(count) if usize::from(count) >= least))
-}
-
-fn shows_leading_dot(segments: &[Segment], record: &Record) -> bool {
-    let dotted = record.file == b"." || record.file.starts_with(b"./");
-    let others = record.file.split(|byte| *byte == b'/').filter(|part| !part.is_empty() && *part != b".").count();
-    dotted && names_file(segments, others + 1)
-}
-
-fn without_dots(mut file: &[u8]) -> &[u8] {
-    while let [b'.', rest @ ..] = file {
-        match rest {
-            [] => return rest,
-            [b'/', ..] => file = &rest[rest.iter().take_while(|byte| **byte == b'/').count()..],
-            _ => break,
-        }
-    }
-    file
+fn names_file(segments: &[Segment]) -> bool {
+    names(segments, &|specifier| matches!(specifier, Specifier::FileName(_)))
 }
 
 fn is_diff(message: &str) -> bool {

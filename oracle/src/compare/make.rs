@@ -3,6 +3,7 @@
 
 mod crossed;
 mod edges;
+mod paths;
 mod records;
 mod sheets;
 mod short;
@@ -28,6 +29,16 @@ const UNKNOWN: &[&u8] = &[&4, &5, &6, &7, &8, &16, &32, &64, &128, &129, &131, &
 /// Widths beyond a block of 128 bytes, in which characters are counted.
 const WIDE: &[&str] =
     &["{s:^300}|", "{[{s}{t}]%>500%bold}|", "{m:0250}|{s:<130}|", "{F:>290}|{s}", "{ff:^199}{c:99}|{s:red:400}|"];
+
+/// How many cases there are of every path, and each of them.
+pub fn path_count() -> u64 {
+    paths::count()
+}
+
+pub fn path_case(index: u64) -> (usize, Case) {
+    let record = paths::record(index).write();
+    (2, Case::Line { template: paths::template(index).into(), record, unknown: 4 })
+}
 
 pub struct Maker {
     seed: u64,

@@ -141,8 +141,9 @@ fn padded(text: String, width: usize, counted: usize, format: &Format) -> String
 
 fn last_components(file: &str, count: u8) -> String {
     let root = file.starts_with('/').then_some("/");
+    let dot = (file.split('/').next() == Some(".")).then_some(".");
     let named = file.split('/').filter(|component| !component.is_empty() && *component != ".");
-    let components: Vec<&str> = root.into_iter().chain(named).collect();
+    let components: Vec<&str> = root.into_iter().chain(dot).chain(named).collect();
     let from = components.len().saturating_sub(count.into());
     if components.is_empty() {
         "<file>".to_string()

@@ -251,9 +251,9 @@ impl Maker {
             "\x1b[31m/a",
             "a\\b/c",
         ];
-        let examples =
-            PATHS.iter().map(|e| e.0).filter(|file| !file.is_empty() && !file.starts_with("./") && *file != ".");
-        let files: Vec<&str> = FILES.iter().copied().chain(more).chain(examples).collect();
+        let dotted = ["./a", "./a/b.rs", "./", "./..", ".//a", "./.", ".//", "/.", "a/./.b", "./.a", ".é/a"];
+        let examples = PATHS.iter().map(|e| e.0).filter(|file| !file.is_empty());
+        let files: Vec<&str> = FILES.iter().copied().chain(more).chain(dotted).chain(examples).collect();
         let templates = [
             "{f}|{ff}|{fff}|{ffff}|{fffffffff}|{F}|{s}",
             "{f:>9}|{ff:12:bold}|{fff:^015}|{s}",
@@ -266,7 +266,7 @@ impl Maker {
                 self.alike("paths", settings, template, vec![record]);
             }
         }
-        // A leading `.` that no count reaches, and files that only {F} shows.
+        // A leading `.` that no count reaches, and an empty file that only {F} shows.
         for (template, file) in
             [("{f}{s}", "./a"), ("{ff}{s}", "./a/b.rs"), ("{F}{s}", "."), ("{F}{s}", "./a"), ("{F:3}|{s}", "")]
         {
@@ -404,11 +404,6 @@ impl Maker {
 
     /// Differences that are no refusals.
     fn listed(&mut self) {
-        for file in ["./a", "./a/b.rs", ".", "./", "./..", "././a", ".//a", "./."] {
-            for template in ["{fff}{s}", "[{ffffffff:12}]{s}"] {
-                self.parted(LISTED, "listed", template, Record { mask: FILE, file: file.into(), ..info() });
-            }
-        }
         for template in ["{f}{s}", "{ff:9}|{s}", "{x{f}}{s}"] {
             self.parted(LISTED, "listed", template, Record { mask: FILE, ..info() });
         }
