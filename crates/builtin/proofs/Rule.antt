@@ -9,7 +9,7 @@ use lib.Dec.{eqb, leb}
 use lib.ListN.{length, getD}
 use borrow.Author.Tests.{leb-true, eqb-true, eqb-false}
 use Rattle.buffer.specs.Bytes.{bytes, part, same}
-use Rattle.buffer.proofs.Sameness.{same→≡}
+use Rattle.buffer.proofs.Sameness.{both-true, same→≡}
 use Rattle.builtin.specs.Builtins.{builtin}
 use Rattle.builtin.specs.Rows.{rowText}
 
@@ -33,10 +33,6 @@ unfoldable pub lengths : List ℕ
 lengths = 7 ∷ 11 ∷ 28 ∷ 32 ∷ 16 ∷ 20 ∷ 48 ∷ 52 ∷ []
 
 -- ---- a test at every row
-
-both-true : (a b : Bool) → (a && b) ≡ true → (a ≡ true) × (b ≡ true)
-both-true true b e = (refl, e)
-both-true false b e = (cc, cc)
 
 -- whether f passes at each of the first n rows
 abbrev everyBelow : (ℕ → Bool) → ℕ → Bool

@@ -8,6 +8,7 @@ use native.Mathlib.Omega.{arith}
 use lib.Dec.{leb, ltb}
 use lib.ListN.{length}
 use borrow.Author.Tests.{ltb-true, ltb-false}
+use Rattle.buffer.proofs.Sameness.{both-true}
 use Rattle.buffer.specs.Table.{Maybe, none, some}
 use Rattle.refusals.specs.declared.Refusal.{Refusal}
 use Rattle.refusals.specs.declared.Refusal.the-variants.{TemplateTooLong, TemplateNotUtf8, Failure, NoMessage, TooManySegments, TooDeep, TooWide, TooManyF, HalfEscape, NameTouchesLetter, FieldTooLong, FieldNotUtf8, LineTooLong, NotARecord, NotASheet}
@@ -23,7 +24,7 @@ use Rattle.demands.specs.Conditions.{TemplateLong, TemplateBroken, Stops
 use Rattle.demands.specs.Demand1.{numberOf, CallDemand1}
 use Rattle.demands.proofs.Numbers.{refused-of, line-of, too-long-of, length-told, lengthOf, returns, room-line, room-none, room-length, numbered}
 use Rattle.demands.proofs.Templates.{RefusedWhen, accepted, refused-when, only-refused}
-use Rattle.demands.proofs.Records.{RecordRefusedWhen, passes-when, both}
+use Rattle.demands.proofs.Records.{RecordRefusedWhen, passes-when}
 use Rattle.demands.proofs.Records as records
 
 module _ (t : List ℕ) (settings : ℕ) (d : List ℕ) (room : ℕ) where
@@ -122,7 +123,7 @@ module _ (t : List ℕ) (settings : ℕ) (d : List ℕ) (room : ℕ) where
     where
       by : (b : Bool) → isCall settings d ≡ b
           → CallWhen (elim b [ true ↦ outcome (settingsOf settings) t (laidOut d) room | false ↦ refused NotASheet ])
-      by true e = let c = both (ltb settings 4) (rightSize d) e in tried (ltb-true settings 4 (c .0), c .1) (readTemplate t) refl
+      by true e = let c = both-true (ltb settings 4) (rightSize d) e in tried (ltb-true settings 4 (c .0), c .1) (readTemplate t) refl
       by false e = no-call (ltb settings 4) refl e
 
   -- ---- and nothing else does

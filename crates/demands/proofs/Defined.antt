@@ -7,6 +7,7 @@ use native.Mathlib.Omega.{arith}
 use lib.Dec.{eqb, leb, ltb}
 use lib.ListN.{length, take, drop}
 use borrow.Author.Tests.{ltb-true}
+use Rattle.buffer.proofs.Sameness.{both-true}
 use Rattle.buffer.specs.Buffer.{putAt}
 use Rattle.buffer.specs.Table.{Maybe, none, some}
 use Rattle.buffer.proofs.Writing.{put-take, put-drop}
@@ -22,7 +23,6 @@ use Rattle.demands.specs.Conditions.{callLine}
 use Rattle.demands.specs.Demand1.{numberOf, AcceptedSheet}
 use Rattle.demands.specs.Demand2.{HoldsAtFront, CallDemand2, callLines, SheetBodies, SessionDemand2}
 use Rattle.demands.proofs.Numbers.{number-told, length-told, lengthOf, room-line, room-length, room-is}
-use Rattle.demands.proofs.Records.{both}
 use Rattle.demands.proofs.Calls.{accepted-call, has-line}
 use Rattle.demands.proofs.Sheets.{has-lines}
 
@@ -73,7 +73,7 @@ module _ (settings : ℕ) (t : List ℕ) (s : LogSegments) (four : ltb settings 
   unfolding recordLines callLines allLaidOut areRecords
   lines h a b [] k = refl
   lines h a b (d ∷ rest) k =
-      let c = both (rightSize d) (areRecords rest) k in
+      let c = both-true (rightSize d) (areRecords rest) k in
       λ i. outcomeLine (((λ j. recordOutcome (settingsOf (a j)) (b j) s (laidOut d) 65536) ∙ one-line d (c .0)) i) ++ lines h a b rest (c .1) i
 
 -- the last test of a sheet
@@ -85,7 +85,7 @@ sheet-bodies d h =
     && leb 2 (length d)
     && leb 1 (bodyCount d)
     && leb (contentsEnd d) (length d)
-    && eqb (contentsEnd d + bodyBytes (bodyCount d) d 2) (length d) in both laid (areBodies (bodies d)) h .1
+    && eqb (contentsEnd d + bodyBytes (bodyCount d) d 2) (length d) in both-true laid (areBodies (bodies d)) h .1
 
 module _ (d : List ℕ) where
   sheet-is : isSheet d ≡ true → sheetOf d ≡ some (held (bodies d))
@@ -99,7 +99,7 @@ module _ (d : List ℕ) where
   defined : (settings : ℕ) (t : List ℕ) (records : List (List ℕ)) → SheetBodies d settings t records → sessionText d ≡ line (callLines settings t records)
   unfolding sessionText maybeSheetText sheetText laid areBodies isHead
   defined settings t records w =
-      let k = both (ltb settings 4) (areRecords records) (sym (ap areBodies (w .laid)) ∙ sheet-bodies d (w .sheet)) in
+      let k = both-true (ltb settings 4) (areRecords records) (sym (ap areBodies (w .laid)) ∙ sheet-bodies d (w .sheet)) in
       ap maybeSheetText (sheet-is (w .sheet) ∙ ap some (held-is settings t records (w .laid)))
       ∙ ap (sheetText (laid settings t records)) (w .template)
       ∙ ap line (lines settings t (w .segments) (k .0) (w .template) (laid settings t records) refl refl records (k .1))

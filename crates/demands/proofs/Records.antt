@@ -8,6 +8,7 @@ use native.Mathlib.Omega.{arith}
 use lib.Dec.{eqb, leb}
 use lib.ListN.{length}
 use borrow.Author.Tests.{ltb-true, lt-ltb, leb-true, leb-false, le-leb, lt-leb, eqb-true, eqb-false, eq-eqb, ne-eqb, not-true}
+use Rattle.buffer.proofs.Sameness.{both-true}
 use Rattle.buffer.specs.Table.{Maybe, none, some}
 use Rattle.utf8.specs.Utf8.{valid}
 use Rattle.refusals.specs.declared.Refusal.{Refusal}
@@ -21,10 +22,6 @@ use Rattle.demands.specs.Demand1.{RecordDemand1}
 use Rattle.demands.proofs.Numbers.{exactly}
 
 -- ---- tests
-
-pub both : (a b : Bool) → (a && b) ≡ true → (a ≡ true) × (b ≡ true)
-both true b e = (refl, e)
-both false b e = (e, cc)
 
 pub both-back : (a b : Bool) → a ≡ true → b ≡ true → (a && b) ≡ true
 both-back a b h g = rw (h, g)
@@ -61,7 +58,7 @@ one-of-back a b c d e f g (inr (inr (inr (inr (inr (inr h)))))) = or-right (a ||
 absent : (present : Bool) (n : ℕ) → absentButThere present n ≡ true → (present ≡ false) × (n ≢ 0)
 unfolding absentButThere
 absent present n e =
-    let b = both (not present) (not (eqb n 0)) e in
+    let b = both-true (not present) (not (eqb n 0)) e in
     (not-true present (b .0), eqb-false n 0 (not-true (eqb n 0) (b .1)))
 
 absent-back : (present : Bool) (n : ℕ) → (present ≡ false) × (n ≢ 0) → absentButThere present n ≡ true
@@ -73,7 +70,7 @@ unfolding badlyMarked badNumbers
 marked d e =
     ⊎-map (ltb-true 1 (d .source))
     (⊎-map (ltb-true 5 (d .level))
-    (⊎-map (λ h. let b = both (eqb (d .source) 1) (eqb (d .level) 0) h in (eqb-true (d .source) 1 (b .0), eqb-true (d .level) 0 (b .1)))
+    (⊎-map (λ h. let b = both-true (eqb (d .source) 1) (eqb (d .level) 0) h in (eqb-true (d .source) 1 (b .0), eqb-true (d .level) 0 (b .1)))
     (⊎-map (ltb-true 7 (d .mask))
     (⊎-map (absent (hasFile d) (length (d .file)))
     (⊎-map (absent (hasLine d) (d .line))

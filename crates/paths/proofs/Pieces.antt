@@ -1,6 +1,6 @@
 -- Laws of a path's pieces and components, place by place. Assumes nothing.
 use mathlib.Core.Path.{_≡_, refl, ap, sym, _∙_, subst}
-use mathlib.Core.Bool.{Bool, true, false, _&&_}
+use mathlib.Core.Bool.{Bool, true, false}
 use mathlib.Core.List.{List, [], _∷_, _++_, append-nil}
 use Prim.Native.Nat.{ℕ, suc, _+_, _-_, _<_, _≤_}
 use native.Mathlib.Omega.{arith}
@@ -11,6 +11,7 @@ use lib.Seq.{append-snoc, drop-nil}
 use borrow.Author.Tests.{eq-eqb, ne-eqb, eqb-true, eqb-false}
 use Rattle.buffer.specs.Bytes.{bytes, part, same}
 use Rattle.buffer.specs.Table.{Maybe, none, some}
+use Rattle.buffer.proofs.Sameness.{both-true}
 use Rattle.buffer.proofs.Parts.{part-step, part-snoc, part-end}
 use Rattle.paths.specs.declared.Component.{Component}
 use Rattle.paths.specs.Paths.{before-first, pieces, isDropped, kept, root, startsWithDot, leadingDot, components, lastOf, slashed, joinedBySlash, fileName}
@@ -172,10 +173,6 @@ other-no-dot : (b : ℕ) (s : List ℕ) → (b ≡ 0x2E → ⊥) → startsWithD
 unfolding startsWithDot
 other-no-dot b [] h = ne-eqb b 0x2E h
 other-no-dot b (c ∷ s) h = rw (ne-eqb b 0x2E h)
-
-both-true : (x y : Bool) → (x && y) ≡ true → (x ≡ true) × (y ≡ true)
-both-true true y e = (refl, e)
-both-true false y e = (e, absurd (let z : _≡_ {A = ℕ} 0 1 = cc in let w : ⊥ = omega arith in w))
 
 pub components-empty : (d : List ℕ) (i e : ℕ) → e ≤ i → components (part i e d) ≡ []
 unfolding components root startsWithDot leadingDot pieces kept isDropped same

@@ -15,7 +15,7 @@ ghost use Rattle.answer.specs.Answers.{answerOf, bufferAfter};
 ghost use Rattle.visible.specs.Visible.{visibleEntry};
 ghost use Rattle.colour.specs.Sequences.{longer, tailLength, bracketLength, sequenceLength, passing, visible};
 
-// An answer has no place for the length of a text from here on.
+// 2^56: an answer has no place for the length of a text from here on.
 const TOO_LONG: usize = 72057594037927936;
 
 // What is visible of the text s, at the front of the lent buffer; or a refusal, and the buffer as it was.
