@@ -1,3 +1,9 @@
 pub mod Leading
 pub mod Ranges
 pub mod Running
+pub mod Following
+pub mod Reached
+pub mod Greatest
+pub mod Judging
+pub mod Checking
+pub mod Wholes

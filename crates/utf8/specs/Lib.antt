@@ -1,3 +1,3 @@
-pub mod Expectations
 pub mod Utf8
+pub mod Windows
 pub mod Computing
