@@ -37,6 +37,11 @@ pub fn run_paths() -> bool {
     run_over(make::path_count(), make::path_case)
 }
 
+/// The same over every four bytes at the edges of UTF-8.
+pub fn run_bytes() -> bool {
+    run_over(make::byte_count(), make::byte_case)
+}
+
 fn run_over(count: u64, case: impl Fn(u64) -> (usize, Case) + Sync) -> bool {
     let mut found = Found::default();
     for batch in in_steps(0..count, BATCH) {

@@ -9,7 +9,7 @@ const USAGE: &str = "usage: pralakuon-oracle lines | segments | text | examples 
        pralakuon-oracle sample FILE [SEED]
        pralakuon-oracle meaning LIST CRATES FOLDER STEP
        pralakuon-oracle seeds LIST FOLDER
-       pralakuon-oracle compare N [SEED] | compare paths   (built by oracle/compare)
+       pralakuon-oracle compare N [SEED] | compare paths | compare bytes   (built by oracle/compare)
        pralakuon-oracle speed              (built by oracle/speed)
        pralakuon-oracle sheet [--colour] [--straight] --template TEXT [--record KEY=VALUE,..]..
        keys of a record: source level file line module timestamp message (the rest, commas too)";
@@ -62,9 +62,12 @@ fn usage() -> ExitCode {
 
 #[cfg(feature = "port")]
 fn compare(numbers: &[&str]) -> ExitCode {
-    use pralakuon_oracle::compare::{run, run_paths, SEED};
+    use pralakuon_oracle::compare::{run, run_bytes, run_paths, SEED};
     if numbers == ["paths"] {
         return ExitCode::from(u8::from(!run_paths()));
+    }
+    if numbers == ["bytes"] {
+        return ExitCode::from(u8::from(!run_bytes()));
     }
     let numbers: Vec<Option<u64>> = numbers.iter().map(|word| word.parse().ok()).collect();
     let alike = match numbers[..] {

@@ -2,6 +2,7 @@
 
 mod growth;
 mod stack;
+mod texts;
 mod timing;
 
 use crate::judge::set_colour;
@@ -29,6 +30,7 @@ pub fn run() {
     reading();
     lines();
     visible();
+    texts::run();
     growth::run();
     stack::run();
 }

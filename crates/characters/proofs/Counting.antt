@@ -1,12 +1,13 @@
--- Laws of `chars`, the number of characters. Assumes nothing.
-use mathlib.Core.Path.{_≡_, refl, ap, _∙_}
-use mathlib.Core.Bool.{Bool, true, false}
+-- Laws of `chars`, the number of characters, and of `has`, whether a byte is in a text. Assumes nothing.
+use mathlib.Core.Path.{_≡_, refl, ap, sym, _∙_}
+use mathlib.Core.Bool.{Bool, true, false, cond}
 use mathlib.Core.List.{List, [], _∷_, _++_}
 use Prim.Native.Nat.{ℕ, zero, suc, _+_, _<_, _≤_}
 use native.Mathlib.Omega.{arith}
+use lib.Dec.{eqb}
 use lib.ListN.{length, drop, getD, replicate, drop-of-length-le}
 use Rattle.utf8.specs.Utf8.{within, trail}
-use Rattle.characters.specs.Characters.{begins, chars}
+use Rattle.characters.specs.Characters.{begins, chars, has}
 use Rattle.buffer.proofs.Parts.{drop-step}
 use Rattle.utf8.proofs.Ranges.{within-in, within-below, within-above}
 
@@ -61,3 +62,28 @@ chars-at s i k h =
 
 pub chars-end : (s : List ℕ) (i : ℕ) → length s ≤ i → chars (drop i s) ≡ 0
 chars-end s i h = ap chars (drop-of-length-le s h)
+
+-- the k-th byte from i on is b, or b comes after it
+pub has-at : (b : ℕ) (s : List ℕ) (i k : ℕ) → i + k < length s
+    → has b (drop (i + k) s) ≡ cond (eqb (getD s (i + k) 0) b) true (has b (drop (i + (k + 1)) s))
+has-at b s i k h =
+    let e : (i + k) + 1 ≡ i + (k + 1) = omega arith in
+    ap (has b) (drop-step s (i + k) h) ∙ ap (λ (n : ℕ). cond (eqb (getD s (i + k) 0) b) true (has b (drop n s))) e
+
+has-end : (b : ℕ) (s : List ℕ) (i : ℕ) → length s ≤ i → has b (drop i s) ≡ false
+has-end b s i h = ap (has b) (drop-of-length-le s h)
+
+-- met before or at a byte, or after it: the order does not matter
+pub met-on : (m e h : Bool) → cond (cond e true m) true h ≡ cond m true (cond e true h)
+met-on true true h = refl
+met-on true false h = refl
+met-on false true h = refl
+met-on false false h = refl
+
+met-last : (m : Bool) → cond m true false ≡ m
+met-last true = refl
+met-last false = refl
+
+-- nothing is still to come at the end
+pub met-all : (b : ℕ) (s : List ℕ) (e : ℕ) (m : Bool) → length s ≤ e → cond m true (has b (drop e s)) ≡ has b s → m ≡ has b s
+met-all b s e m h f = sym (met-last m) ∙ ap (cond m true) (sym (has-end b s e h)) ∙ f

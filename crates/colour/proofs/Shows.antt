@@ -8,6 +8,7 @@ use lib.Dec.{eqb}
 use lib.ListN.{replicate}
 use borrow.Author.Tests.{eqb-false}
 use Rattle.utf8.specs.Utf8.{within}
+use Rattle.characters.specs.Characters.{has}
 use Rattle.words.specs.declared.Padding.{Padding}
 use Rattle.words.specs.declared.Padding.the-variants.{Space, Zero}
 use Rattle.runs.specs.Runs.{digit}
@@ -78,6 +79,15 @@ free-cons b s false e rest h = (eqb-false b esc e, rest h)
 pub free-by-test : (s : List ℕ) → lacksEsc s ≡ true → Free s
 free-by-test [] h = tt
 free-by-test (b ∷ s) h = free-cons b s (eqb b esc) refl (free-by-test s) h
+
+-- and so is one that is said not to have it
+pub free-by-has : (s : List ℕ) → has esc s ≡ false → Free s
+free-by-has [] e = tt
+free-by-has (b ∷ s) e = let w = neither (eqb b esc) (has esc s) e in (eqb-false b esc (w .0), free-by-has s (w .1))
+  where
+    neither : (x y : Bool) → cond x true y ≡ false → (x ≡ false) × (y ≡ false)
+    neither true y e = (cc, cc)
+    neither false y e = (refl, e)
 
 pub free-append : (a b : List ℕ) → Free a → Free b → Free (a ++ b)
 free-append [] b f g = g

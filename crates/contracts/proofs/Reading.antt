@@ -46,7 +46,7 @@ is-utf8-settled _ _ _ _ _ _ p q = (same p q, refl)
 -- ---- characters
 
 count-chars-settled : Settled 1 characters.count_chars.Kinds.ps characters.count_chars.Kinds.r characters.count_chars.Reads.Post
-count-chars-settled _ _ _ _ _ _ p q = (same p q, refl)
+count-chars-settled _ _ _ _ _ _ p q = (λ i. record { chars = same (p .0) (q .0) i; met = same (p .1) (q .1) i }, refl)
 
 -- ---- runs
 

@@ -23,6 +23,13 @@ pub measure-eq : (t t′ : Scan) (c c′ l l′ : ℕ) → t ≡ t′ → c ≡ 
     → _≡_ {A = Measure} (record { scan = t; chars = c; len = l }) (record { scan = t′; chars = c′; len = l′ })
 measure-eq t t′ c c′ l l′ p q r = λ i. record { scan = p i; chars = q i; len = r i }
 
+-- a text more, from the search after it and its number of characters
+pub grown-by : (a : Measure) (s : List ℕ) (t : Scan) (n : ℕ) → t ≡ scan (a .scan) s → n ≡ chars s
+    → _≡_ {A = Measure} (record { scan = t; chars = a .chars + n; len = a .len + length s }) (grown a s)
+grown-by a s t n e f =
+    measure-eq t (scan (a .scan) s) (a .chars + n) (a .chars + chars s) (a .len + length s) (a .len + length s)
+    e (ap (λ (x : ℕ). a .chars + x) f) refl
+
 -- ---- texts joined
 
 pub grown-append : (a : Measure) (s t : List ℕ) → grown (grown a s) t ≡ grown a (s ++ t)

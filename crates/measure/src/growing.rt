@@ -1,11 +1,16 @@
 // A measure, and a text more.
 use super::Measure;
+use characters::count_chars;
 use colour::Scan;
 use colour::State;
+use scanning::skipping::rests;
 use scanning::skipping::scan_text;
 ghost use mathlib.Core.Path.{_≡_};
 ghost use Prim.Native.Nat.{_+_, _<_, _^_};
 ghost use lib.ListN.{length};
+ghost use Rattle.characters.specs.Characters.{has};
+ghost use Rattle.colour.specs.Machine.{scan};
+ghost use Rattle.colour.specs.Sequences.{esc};
 ghost use Rattle.measure.specs.Measures.{nothing, grown, Small};
 
 // Nothing, measured.
@@ -30,11 +35,25 @@ pub fn add(a: Measure, s: &[u8]) -> Measure
     ensures { λ r. ⌜ r ≡ grown a (now (s .entry)) ⌝ }
 {
     let t = a.scan;
-    let u = scan_text(t, s);
-    let n = characters::count_chars(s);
+    let c = count_chars(s, 27);
+    let u = scan_found(t, s, c.met);
     Measure {
         scan: u,
-        chars: a.chars + n,
+        chars: a.chars + c.chars,
         len: a.len + s.len(),
     }
+}
+
+// The search after s, in which byte 27 was met or not: without it the search stays as it is where no sequence has begun.
+fn scan_found(t: Scan, s: &[u8], met: bool) -> Scan
+    requires { ⌜ (t .sequences + t .held + length (now s) < 2 ^ 60) × (t .resets + length (now s) < 2 ^ 60) ⌝ }
+    requires { ⌜ met ≡ has esc (now s) ⌝ }
+    ensures { λ r. ⌜ r ≡ scan t (now (s .entry)) ⌝ }
+{
+    if !met {
+        if rests(t) {
+            return t;
+        }
+    }
+    scan_text(t, s)
 }

@@ -1,6 +1,7 @@
 //! The cases: each is made from the seed and its place alone, and kinds take turns, so that any number of cases has all
 //! kinds.
 
+mod bytes;
 mod crossed;
 mod edges;
 mod paths;
@@ -38,6 +39,16 @@ pub fn path_count() -> u64 {
 pub fn path_case(index: u64) -> (usize, Case) {
     let record = paths::record(index).write();
     (2, Case::Line { template: paths::template(index).into(), record, unknown: 4 })
+}
+
+/// How many cases there are of every four bytes at the edges of UTF-8, and each of them.
+pub fn byte_count() -> u64 {
+    bytes::count()
+}
+
+pub fn byte_case(index: u64) -> (usize, Case) {
+    let record = bytes::record(index).write();
+    (2, Case::Line { template: bytes::TEMPLATE.into(), record, unknown: 4 })
 }
 
 pub struct Maker {
