@@ -1,6 +1,7 @@
 //! Shows the line of a record by a template: `host/try` says how it is called.
 
 use pralakuon::{line, Level, RawRecord, Refusal, Settings};
+use std::io::{stdout, ErrorKind, Write};
 use std::process::ExitCode;
 
 const MODES: [(&str, Settings); 3] = [
@@ -12,7 +13,7 @@ const MODES: [(&str, Settings); 3] = [
 fn main() -> ExitCode {
     let words: Vec<String> = std::env::args().skip(1).collect();
     let shown = match words.split_first() {
-        Some((template, keys)) => record(keys).and_then(|record| show(template, record)),
+        Some((template, keys)) => record(keys).and_then(|record| show(template, record)).and_then(|text| print(&text)),
         None => Err("a template is needed".to_string()),
     };
     match shown {
@@ -49,18 +50,27 @@ fn level(value: &str) -> Result<u8, String> {
     value.parse().or_else(|_| value.parse::<Level>().map(Level::number).map_err(|unknown| unknown.to_string()))
 }
 
-fn show(template: &str, record: RawRecord) -> Result<(), String> {
+fn show(template: &str, record: RawRecord) -> Result<String, String> {
+    let mut text = String::new();
     let mut longest = 0;
     for (name, settings) in MODES {
         let made = made(template, settings, record).map_err(|refusal| refusal.to_string())?;
         if settings == Settings::PLAIN {
             longest = made.chars().count();
-            println!("{:20}{}", "", ruler(longest));
+            text += &format!("{:20}{}\n", "", ruler(longest));
         }
-        println!("{name:20}{}", made.replace('\x1b', "ESC"));
+        text += &format!("{name:20}{}\n", made.replace('\x1b', "ESC"));
     }
-    println!("{:20}{longest} characters in the plain line", "");
-    Ok(())
+    text += &format!("{:20}{longest} characters in the plain line\n", "");
+    Ok(text)
+}
+
+/// A reader that stops early, such as `head`, has seen what it wanted.
+fn print(text: &str) -> Result<(), String> {
+    match stdout().write_all(text.as_bytes()) {
+        Err(wrong) if wrong.kind() != ErrorKind::BrokenPipe => Err(wrong.to_string()),
+        _ => Ok(()),
+    }
 }
 
 fn made(template: &str, settings: Settings, record: RawRecord) -> Result<String, Refusal> {
