@@ -4,8 +4,8 @@ mod common;
 
 use common::{archive_refuses, hand_laid, hello, line_of, sheet_of};
 use pralakuon::{
-    check, names_timestamp, session, Formatter, FormatterConfig, FormatterFormat, HostFormatter, HostRecord, Level,
-    RawRecord, Record, Refusal, Settings, Sheet, SheetFull, SheetWriter, Version,
+    check, line, names_timestamp, session, Formatter, FormatterConfig, FormatterFormat, HostFormatter, HostRecord,
+    Level, RawRecord, Record, Refusal, Settings, Sheet, SheetFull, SheetWriter, Version,
 };
 
 /// A sheet of two records.
@@ -330,4 +330,33 @@ fn what_concerns_the_archive_is_told() {
     assert_eq!(other.number(), 0);
     let told = format!("the archive is of another version: 7.8.9, and this crate is {}", env!("CARGO_PKG_VERSION"));
     assert_eq!(other.to_string(), told);
+}
+
+/// Long texts are checked in blocks, so every place of one has its turn: cut off there, and with a byte changed there. Rust
+/// says which of them are UTF-8; those fill the width by their characters.
+#[test]
+fn a_text_beyond_ascii_is_told_from_a_broken_one_at_every_place() {
+    for piece in ["é", "壁", "😀", "aé壁😀", "le mur est fissuré près de la fenêtre, "] {
+        let text = piece.repeat(40);
+        let whole = &text.as_bytes()[..128.min(text.len())];
+        for place in 0..whole.len() {
+            tell(&whole[..place]);
+            for byte in [b'x', 0x80, 0xbf, 0xc0, 0xc3, 0xe0, 0xed, 0xf0, 0xf4, 0xff] {
+                let mut changed = whole.to_vec();
+                changed[place] = byte;
+                tell(&changed);
+            }
+        }
+    }
+}
+
+fn tell(message: &[u8]) {
+    let mut out = [0; 1_024];
+    let shown = line(b"{s:140}|", Settings::PLAIN, hello().with_message(message), &mut out);
+    match std::str::from_utf8(message) {
+        Ok(text) => {
+            assert_eq!(&out[..shown.unwrap()], format!("{text:140}|").as_bytes());
+        }
+        Err(_) => assert_eq!(shown, Err(Refusal::FieldNotUtf8), "{message:?}"),
+    }
 }

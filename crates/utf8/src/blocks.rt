@@ -12,6 +12,9 @@ ghost use lib.ListN.{length, getD};
 ghost use Rattle.utf8.specs.Utf8.{valid};
 ghost use Rattle.utf8.specs.Windows.{Told, Unbroken, dueAfter};
 
+// Bytes in a block. Where accents are few a longer one would seldom be ASCII as a whole; a shorter one has too little to do.
+const BLOCK: usize = 32;
+
 // Whether a text that is not broken up to `from` is UTF-8. The last block overlaps the one before it, so that it is whole, too.
 pub(crate) fn sound_from(s: &[u8], from: usize) -> bool
     requires { ⌜ (35 ≤ length (now s)) × (3 ≤ from) × (from ≤ length (now s)) × Told (now s) from ⌝ }
@@ -19,11 +22,11 @@ pub(crate) fn sound_from(s: &[u8], from: usize) -> bool
 {
     let mut i = from;
     while i < s.len() {
-        let at = least(i, s.len() - 32);
+        let at = least(i, s.len() - BLOCK);
         if !is_sound(s, at) {
             return false;
         }
-        i = at + 32;
+        i = at + BLOCK;
     }
     due_at(s, s.len()) == 0
 }
@@ -33,16 +36,16 @@ fn is_sound(s: &[u8], i: usize) -> bool
     requires { ⌜ (3 ≤ i) × (i + 32 ≤ length (now s)) ⌝ }
     ensures { λ r. ⌜ (r ≡ true → Unbroken (now (s .entry)) i (i + 32)) × (r ≡ false → valid (now (s .entry)) ≡ false) ⌝ }
 {
-    let top = greatest(s, i, 32);
+    let top = greatest(s, i, BLOCK);
     if top < 0x80 {
         return due_at(s, i) == 0;
     }
     if top < 0xE0 {
         if greatest_before(s, i) < 0xE0 {
-            return flaws_of_two(s, i - 3, 32) == 0;
+            return flaws_of_two(s, i - 3, BLOCK) == 0;
         }
     }
-    flaws(s, i - 3, 32) == 0
+    flaws(s, i - 3, BLOCK) == 0
 }
 
 // How many of the three bytes before i ask that the next one go on with a character.

@@ -15,13 +15,19 @@ mod blocks;
 mod whole;
 mod windows;
 
+// Bytes of ASCII that are passed in one step at the front of a text.
+const STRIDE: usize = 128;
+
+// Bytes that have room for a block and for the characters before it, which take six at most.
+const ROOM: usize = 38;
+
 // Whether `s` is UTF-8.
 pub fn is_utf8(s: &[u8]) -> bool
     ensures { λ r. ⌜ r ≡ valid (now (s .entry)) ⌝ }
 {
     let i = ascii_end(s);
     let n = s.len() - i;
-    if n < 128 {
+    if n < STRIDE {
         if greatest(s, i, n) < 0x80 {
             return true;
         }
@@ -41,20 +47,20 @@ fn ascii_end(s: &[u8]) -> usize
     ensures { λ r. ⌜ (r ≤ length (now (s .entry))) × (reached (now (s .entry)) r ≡ awaited []) ⌝ }
 {
     let mut i: usize = 0;
-    while 128 <= s.len() - i {
-        if 0x7F < greatest(s, i, 128) {
+    while STRIDE <= s.len() - i {
+        if 0x7F < greatest(s, i, STRIDE) {
             return i;
         }
-        i += 128;
+        i += STRIDE;
     }
     i
 }
 
-// Up to where to go character by character: a block needs three bytes before it, and these characters take six at most. A text
-// that has no room for them and a block goes so to its end.
+// Up to where to go character by character: a block needs three bytes before it, and a text that has no room for one goes so to
+// its end.
 fn start(n: usize, i: usize) -> usize
     requires { ⌜ i ≤ n ⌝ }
     ensures { λ r. ⌜ (n < i + 38 → r ≡ n) × (i + 38 ≤ n → r ≡ i + 3) ⌝ }
 {
-    if n - i < 38 { n } else { i + 3 }
+    if n - i < ROOM { n } else { i + 3 }
 }

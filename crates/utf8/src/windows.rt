@@ -7,7 +7,7 @@ ghost use lib.ListN.{length, getD};
 ghost use Rattle.utf8.specs.Utf8.{Awaited, step};
 ghost use Rattle.utf8.specs.Windows.{Follows, Judged, Checked, alike, less, dueAfter};
 
-// 0 where each of n bytes, the first three after `from`, may stand at its place.
+// 0 where each of n bytes may stand at its place; the first of them comes three places after `from`.
 pub(crate) fn flaws(s: &[u8], from: usize, n: usize) -> u8
     requires { ⌜ from + 3 + n ≤ length (now s) ⌝ }
     ensures { λ r. ⌜ Checked (now (s .entry)) (from + 3) (from + 3 + n) r ⌝ }
