@@ -14,7 +14,7 @@
  *   function is called: nothing is allocated, read, written, locked or aborted.
  * - A 64-bit little-endian processor, with its vector registers switched on (SSE2 on x86-64, NEON on aarch64). There is
  *   no archive for 32 bits.
- * - Stack: an entry was measured to take less than 13 KiB, on x86-64 and on aarch64 (docs/SPEED.md). That is measured,
+ * - Stack: an entry was measured to take less than 14 KiB, on x86-64 (docs/SPEED.md). That is measured,
  *   not proved: give a thread that calls it 16 KiB more than it needs itself.
  * - No data but constants: it can stand in read-only memory, nothing has to be set up, and it runs at any address.
  * - Alignment: none, every pointer may be odd. So words are read at odd addresses: on aarch64 without an operating
@@ -42,7 +42,7 @@ enum pralakuon_refusal {
     PRALAKUON_TOO_WIDE = 7,              /* a width above 512 */
     PRALAKUON_TOO_MANY_F = 8,            /* a specifier name of more than 255 f */
     PRALAKUON_HALF_ESCAPE = 9,           /* a backslash as the last byte where a closing brace is searched */
-    PRALAKUON_NAME_TOUCHES_LETTER = 10,  /* a run of ASCII letters, tried as a name, touches a byte of 128 or more */
+    /* 10 is no longer given, and no other refusal takes its number */
     PRALAKUON_FIELD_TOO_LONG = 11,       /* a field over 4,096 bytes */
     PRALAKUON_FIELD_NOT_UTF8 = 12,       /* a field not UTF-8 */
     PRALAKUON_LINE_TOO_LONG = 13,        /* longer than the lent buffer; the length is the one needed */
@@ -108,8 +108,8 @@ enum pralakuon_style {
 
 /* The version of this header. A caller made for MAJOR.MINOR works with every archive of the same MAJOR.MINOR. */
 #define PRALAKUON_VERSION_MAJOR 0
-#define PRALAKUON_VERSION_MINOR 2
-#define PRALAKUON_VERSION_PATCH 1
+#define PRALAKUON_VERSION_MINOR 3
+#define PRALAKUON_VERSION_PATCH 0
 #define PRALAKUON_VERSION (65536 * PRALAKUON_VERSION_MAJOR + 256 * PRALAKUON_VERSION_MINOR + PRALAKUON_VERSION_PATCH)
 
 /* The refusal in an answer, or 0, and the length in it. */
@@ -123,7 +123,7 @@ uint64_t pralakuon_line(const uint8_t *template_, size_t template_len, uint8_t s
                         size_t record_len, uint8_t *out, size_t out_len);
 
 /* The lines of a session sheet: for each record its line or `! N`, N being its refusal, and a newline. A sheet that is
- * none (15) and one whose template is refused (1 to 10) have no lines, whatever the room: the refusal is answered. Only
+ * none (15) and one whose template is refused (1 to 9) have no lines, whatever the room: the refusal is answered. Only
  * of an accepted sheet 13 tells the length of all its lines. pralakuon_record.h writes sheets. */
 uint64_t pralakuon_session(const uint8_t *sheet, size_t sheet_len, uint8_t *out, size_t out_len);
 

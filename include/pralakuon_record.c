@@ -133,6 +133,7 @@ enum pralakuon_sheet_answer pralakuon_sheet_push(struct pralakuon_sheet *sheet, 
 
 const char *pralakuon_refusal_text(unsigned refusal)
 {
+    static const char unknown[] = "an unknown refusal";
     static const char *const texts[] = {
         "no refusal",
         "the template is over 1,024 bytes",
@@ -144,7 +145,7 @@ const char *pralakuon_refusal_text(unsigned refusal)
         "the template asks for a width above 512",
         "the template has a name of more than 255 f",
         "the template ends in a backslash where a closing brace is searched for",
-        "a name in the template touches a character that is not ASCII",
+        unknown, /* 10 is no longer given */
         "a text of the record is over 4,096 bytes",
         "a text of the record is not UTF-8",
         "the line is longer than the buffer",
@@ -152,7 +153,7 @@ const char *pralakuon_refusal_text(unsigned refusal)
         "a settings bit is unknown, or a record or sheet is not laid out as one",
     };
 
-    return refusal < sizeof texts / sizeof *texts ? texts[refusal] : "an unknown refusal";
+    return refusal < sizeof texts / sizeof *texts ? texts[refusal] : unknown;
 }
 
 const char *pralakuon_level_name(unsigned level)

@@ -1,4 +1,5 @@
-//! Makes samples/: a wall scan as a session sheet in each of the three modes, and what is printed of it. host/samples runs it.
+//! Makes samples/: a wall scan as a session sheet in each of the three modes, one of a French crew, and what is printed of
+//! them. host/samples runs it.
 
 use pralakuon::{session, HostRecord, Level, Record, Settings, SheetWriter};
 use std::error::Error;
@@ -8,17 +9,23 @@ use std::path::Path;
 /// Every field before the gauge's has a width, the time too: without one, 10 seconds are a place wider than 9.
 const TEMPLATE: &str = "{t:>12} {[{L}]%bold%<9}|{gauge {c:>8}: {s:>24}%dimmed%40}| {ff:>20}:{l}";
 
+/// As a French crew writes it: a name is a whole run of letters, so `Température` and `relevé` are text.
+const FRENCH: &str = "{t:>12} {Température {L}%bold%<19}|{relevé : {s:>24}%dimmed%33}| {ff:>20}:{l}";
+
 const MODES: [(&str, Settings); 3] =
     [("wall", Settings::PLAIN), ("wall-crate", Settings::CRATE_COLOUR), ("wall-straight", Settings::STRAIGHT_COLOUR)];
 
 fn main() -> Result<(), Box<dyn Error>> {
     let folder = Path::new(env!("CARGO_MANIFEST_DIR")).join("../samples");
-    for (name, settings) in MODES {
-        let sheet = scan(settings)?;
+    let leave = |name: &str, sheet: Vec<u8>| -> Result<(), Box<dyn Error>> {
         write(folder.join(name).with_extension("sheet"), &sheet)?;
         write(folder.join(name).with_extension("txt"), session(&sheet)?)?;
+        Ok(())
+    };
+    for (name, settings) in MODES {
+        leave(name, scan(settings)?)?;
     }
-    Ok(())
+    leave("mur", french_scan()?)
 }
 
 /// The scan: the device's readings, a print, and a word of the tablet itself.
@@ -44,6 +51,27 @@ fn scan(settings: Settings) -> Result<Vec<u8>, Box<dyn Error>> {
     sheet.push(&trolley)?;
     sheet.push(&lost.with_timestamp("10.005000"))?;
     sheet.push(&Record::print("scan of wall B3 ends"))?;
+    sheet.push(&tablet)?;
+    Ok(sheet.finish())
+}
+
+/// The scan of a French crew: the wall's temperature, a sensor that came loose, a print, and a word of the tablet itself.
+fn french_scan() -> Result<Vec<u8>, Box<dyn Error>> {
+    let sensor = Record::new(Level::Info, "mur B3, 18,4 °C")
+        .with_file("/tête/src/température.rs")
+        .with_line(52)
+        .with_module_path("température::relevé")
+        .with_timestamp("9.997500");
+    let tablet = HostRecord::new(Level::Debug, "feuille fermée")
+        .with_file("/tablette/app.rs")
+        .with_line(40)
+        .with_module_path("tablette::app");
+    let loose = sensor.with_level(Level::Warn).with_line(60).with_message("sonde décollée");
+    let mut sheet = SheetWriter::new(Settings::PLAIN, FRENCH.as_bytes())?;
+    sheet.push(&sensor)?;
+    sheet.push(&sensor.with_timestamp("10.000000").with_message("mur B3, 18,5 °C"))?;
+    sheet.push(&loose.with_timestamp("10.002500"))?;
+    sheet.push(&Record::print("fin du relevé du mur B3"))?;
     sheet.push(&tablet)?;
     Ok(sheet.finish())
 }

@@ -36,7 +36,8 @@ mod tests {
         for number in 1..=255 {
             let refusal = settle(number.into()).unwrap_err();
             assert_eq!(refusal.number(), number);
-            assert_eq!(matches!(refusal, Refusal::Unknown { .. }), number > 15, "{refusal}");
+            // 10 is no longer given.
+            assert_eq!(matches!(refusal, Refusal::Unknown { .. }), number == 10 || number > 15, "{refusal}");
         }
     }
 }

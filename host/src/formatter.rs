@@ -12,7 +12,7 @@ macro_rules! formatter {
             /// A formatter by this configuration. The template is checked here, so only records are refused later.
             ///
             /// # Errors
-            /// Refusals 1 to 10: what is wrong with the template.
+            /// Refusals 1 to 9: what is wrong with the template.
             pub fn new(config: FormatterConfig) -> Result<Self, Refusal> {
                 Lines::new(config, $host).map(|lines| $formatter { lines })
             }

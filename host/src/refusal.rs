@@ -1,4 +1,4 @@
-//! The reasons for which there is no line: fifteen with a number, and two that concern the archive itself.
+//! The reasons for which there is no line: fourteen with a number, and two that concern the archive itself.
 
 use crate::Version;
 use std::error::Error;
@@ -36,8 +36,6 @@ pub enum Refusal {
     TooManyF,
     /// 9: a backslash as the last byte where a closing brace is searched for.
     HalfEscape,
-    /// 10: a run of ASCII letters, tried as a name, touches a byte of 128 or more.
-    NameTouchesLetter,
     /// 11: a field over 4,096 bytes.
     FieldTooLong,
     /// 12: a field not UTF-8. Records of `&str` never meet it.
@@ -64,7 +62,7 @@ pub enum Refusal {
 }
 
 /// The refusals with a number, in the order of their numbers.
-const NUMBERED: [Refusal; 15] = [
+const NUMBERED: [Refusal; 14] = [
     Refusal::TemplateTooLong,
     Refusal::TemplateNotUtf8,
     Refusal::Failure,
@@ -74,7 +72,6 @@ const NUMBERED: [Refusal; 15] = [
     Refusal::TooWide,
     Refusal::TooManyF,
     Refusal::HalfEscape,
-    Refusal::NameTouchesLetter,
     Refusal::FieldTooLong,
     Refusal::FieldNotUtf8,
     Refusal::LineTooLong { needed: 0 },
@@ -83,19 +80,21 @@ const NUMBERED: [Refusal; 15] = [
 ];
 
 impl Refusal {
-    /// Its number: 1 to 15, the archive's own where it is [`Unknown`](Refusal::Unknown), and 0 for
+    /// Its number: 1 to 9 or 11 to 15, the archive's own where it is [`Unknown`](Refusal::Unknown), and 0 for
     /// [`OtherVersion`](Refusal::OtherVersion), which no archive answers.
     #[must_use]
     pub fn number(self) -> u8 {
         self.told().0
     }
 
-    /// The refusal of a number; none but 1 to 15 has one. A bare 13 says nothing of the length needed, which is 0 then.
+    /// The refusal of a number; none but 1 to 9 and 11 to 15 has one. A bare 13 says nothing of the length needed, which
+    /// is 0 then. 10 is no longer given, and no other refusal takes its number.
     ///
     /// ```
     /// use pralakuon::Refusal;
     ///
     /// assert_eq!(Refusal::from_number(3), Some(Refusal::Failure));
+    /// assert_eq!(Refusal::from_number(10), None);
     /// assert_eq!(Refusal::from_number(16), None);
     /// ```
     #[must_use]
@@ -115,7 +114,6 @@ impl Refusal {
             Refusal::TooWide => (7, "the template asks for a width above 512"),
             Refusal::TooManyF => (8, "the template has a name of more than 255 f"),
             Refusal::HalfEscape => (9, "the template ends in a backslash where a closing brace is searched for"),
-            Refusal::NameTouchesLetter => (10, "a name in the template touches a character that is not ASCII"),
             Refusal::FieldTooLong => (11, "a text of the record is over 4,096 bytes"),
             Refusal::FieldNotUtf8 => (12, "a text of the record is not UTF-8"),
             Refusal::LineTooLong { .. } => (13, "the line is longer than the buffer"),

@@ -15,7 +15,7 @@ use crate::{entries, Refusal};
 /// ```
 ///
 /// # Errors
-/// Refusals 1 to 10.
+/// Refusals 1 to 9.
 pub fn check(template: &[u8]) -> Result<(), Refusal> {
     asked(|| entries::check(template)).map(|_| ())
 }
@@ -31,7 +31,7 @@ pub fn check(template: &[u8]) -> Result<(), Refusal> {
 /// ```
 ///
 /// # Errors
-/// Refusals 1 to 10, as [`check`].
+/// Refusals 1 to 9, as [`check`].
 pub fn names_timestamp(template: &[u8]) -> Result<bool, Refusal> {
     asked(|| entries::timestamp(template)).map(|length| length != 0)
 }

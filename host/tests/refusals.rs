@@ -108,11 +108,45 @@ fn r09_a_backslash_at_the_end_of_a_search() {
     refused(9, "{s\\");
 }
 
+/// 10 was for a name right before a character beyond ASCII. A name is a whole run of letters, of any script, so what is
+/// behind the name decides: a letter makes another word of it, anything else ends it and is dropped.
 #[test]
-fn r10_a_name_beside_a_letter_that_is_not_ascii() {
+fn r10_is_no_longer_given() {
+    assert_eq!(Refusal::from_number(10), None);
+    read("{Température {L}%bold} {s}", "Température INFO  hello");
+    read("{測定値 {L}%bold} {s}", "測定値 INFO  hello");
+    for no_letter in ["→", "²", "\u{301}"] {
+        read(&format!("{{s{no_letter}}}"), "hello");
+    }
+    for letter in ["é", "Ⅷ", "値", "\u{345}"] {
+        refused(3, format!("{{s{letter}}}"));
+    }
+    read("{aé {s}}", "aé hello");
+    read("{x{s:aé}}", "xhello");
+    refused(3, "{[{s}]%aé}");
+    let fs = |count: usize, last: &str| format!("{{{}{last}}}{{s}}", "f".repeat(count));
+    refused(3, fs(255, "é"));
+    refused(3, fs(256, "é"));
+    read(&fs(255, "\u{301}"), "<file>hello");
+    refused(8, fs(256, "\u{301}"));
+    // So it was before.
+    refused(3, "{é}");
+    read("{s}é", "helloé");
     read("{s é}", "hello");
-    refused(10, "{sé}");
-    refused(10, format!("{{{}é}}{{s}}", "f".repeat(256)));
+    read("{s aé}", "hello");
+}
+
+/// The Kelvin sign, U+212A, is a letter and no `k`, though Rust makes that of it in small letters.
+#[test]
+fn r10_is_not_given_for_the_kelvin_sign_either() {
+    refused(3, "{s:blac\u{212a}}");
+    refused(3, "{[{s}]%blac\u{212a}}");
+    read("{blac\u{212a} {s}}", "blac\u{212a} hello");
+    let dropped = "{x{s:blac\u{212a}}}";
+    read(dropped, "xhello");
+    assert_eq!(line_of(dropped.as_bytes(), Settings::CRATE_COLOUR, hello()), Ok(b"xhello".to_vec()));
+    let black = line_of(b"{x{s:BLACK}}", Settings::CRATE_COLOUR, hello());
+    assert_eq!(black, Ok(b"x\x1b[30mhello\x1b[0m".to_vec()));
 }
 
 /// A record with this text in the field of this number, in the order in which fields are checked.
@@ -296,7 +330,7 @@ fn r15_bodies_run_out_of_room_before_they_run_out_of_numbers() {
 #[test]
 fn numbers_and_names_are_those_of_the_header() {
     let header = include_str!("../../include/pralakuon.h");
-    for number in 1..=15 {
+    for number in (1..=15).filter(|&number| number != 10) {
         let refusal = Refusal::from_number(number).unwrap();
         assert_eq!(refusal.number(), number);
         assert!(refusal.to_string().starts_with(&format!("refusal {number}: ")), "{refusal}");
@@ -306,9 +340,10 @@ fn numbers_and_names_are_those_of_the_header() {
         let in_header = line.split_whitespace().next().unwrap().trim_start_matches("PRALAKUON_").replace('_', "");
         assert_eq!(name.to_uppercase(), in_header);
     }
-    for number in (16..=255).chain([0]) {
+    for number in (16..=255).chain([0, 10]) {
         assert_eq!(Refusal::from_number(number), None);
     }
+    assert!(header.contains("/* 10 is no longer given") && !header.contains(" = 10"));
 }
 
 #[test]

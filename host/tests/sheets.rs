@@ -15,7 +15,7 @@ const EXAMPLE: &[u8] = b"\x04\0\
     \0\0\0\0\0\0\0\0\0\0\0\0\0\x04\0boot\
     \x01\0\0\0\0\0\0\0\0\0\0\0\0\0\0";
 
-const SAMPLES: [&str; 3] = ["wall", "wall-crate", "wall-straight"];
+const SAMPLES: [&str; 4] = ["wall", "wall-crate", "wall-straight", "mur"];
 
 fn sample(name: &str) -> Vec<u8> {
     let path = Path::new(env!("CARGO_MANIFEST_DIR")).join("../samples").join(name);

@@ -42,6 +42,11 @@ pub fn run_bytes() -> bool {
     run_over(make::byte_count(), make::byte_case)
 }
 
+/// The same over every character in four places of a template.
+pub fn run_letters() -> bool {
+    run_over(make::letter_count(), make::letter_case)
+}
+
 fn run_over(count: u64, case: impl Fn(u64) -> (usize, Case) + Sync) -> bool {
     let mut found = Found::default();
     for batch in in_steps(0..count, BATCH) {

@@ -1,5 +1,5 @@
-//! Document 01's examples, held against the crate. Expected values are typed from the documents;
-//! where the port parts from the crate, the crate's own answer stands here and says so.
+//! Document 01's examples, and letters as document 02 decides them (E3), held against the crate. Expected values are typed
+//! from the documents; where the port parts from the crate, the crate's own answer stands here and says so.
 
 use crate::judge::{self, Answer, Shown};
 use crate::sheet::{Record, Sheet, COLOUR, DEVICE, FILE, HOST, LINE, MODULE};
@@ -45,11 +45,23 @@ pub(crate) const PLAIN: &[(&str, &str)] = &[
     ("{l}|{s}", "0   |hello"),
     ("{l:1}|{s}", "0|hello"),
     ("{t:8}|{c:9}|{s}", "<time>  |<crate>  |hello"),
-    // bytes of 128 and more where document 01 reads too
+    // letters are Unicode's, and a name is the whole run of them
     ("{é{s}}", "éhello"),
     ("{x{s:é}}", "xhello"),
     ("{s aé}", "hello"),
     ("{s}%aé", "hello"),
+    ("{s}é", "helloé"),
+    ("{Température {L}%bold} {s}", "Température INFO  hello"),
+    ("{測定値 {L}%bold} {s}", "測定値 INFO  hello"),
+    ("{aé {s}}", "aé hello"),
+    ("{x{s:aé}}", "xhello"),
+    // these are no letters
+    ("{s→}", "hello"),
+    ("{s\u{301}}", "hello"),
+    ("{s²}", "hello"),
+    ("{s:red→}", "hello"),
+    // the Kelvin sign where no colour word is tried
+    ("{\u{212a} {s}}", "\u{212a} hello"),
     // groups
     ("{[{L}]%>9}|{s}", "  [INFO ]|hello"),
     ("{a{L}{b{s}}}", "aINFO bhello"),
@@ -98,11 +110,21 @@ pub(crate) const REFUSED: &[(&str, u8)] = &[
     ("{s:orange}", 3),
     ("{s:truecolor}", 3),
     ("{s:default}", 3),
-    // bytes of 128 and more where document 01 says 3 and 4 too
+    // letters beyond ASCII make no name
     ("{é}", 3),
     ("{éa}", 3),
     ("{s:é}", 3),
     ("{aé", 4),
+    ("{aé}", 3),
+    ("{sé}", 3),
+    ("{sⅧ}", 3),
+    ("{s\u{345}}", 3),
+    ("{s:aé}", 3),
+    ("{[{s}]%aé}", 3),
+    // in lower case neither a `k` of a style nor an `s` nor an `i`
+    ("{s:stri\u{212a}e}", 3),
+    ("{s:ſtrike}", 3),
+    ("{s:whİte}", 3),
     // depth: eight bare pairs; nine opened and eight closed
     ("{{{{{{{{}}}}}}}}", 3),
     ("{{{{{{{{{}}}}}}}}", 4),
@@ -114,15 +136,6 @@ pub(crate) const REFUSED: &[(&str, u8)] = &[
 pub(crate) const PARTED: &[(u8, &str, Instead)] = &[
     (9, "{s\\", Instead::Panic),
     (9, "{s}{\\", Instead::Panic),
-    (10, "{aé}", Instead::Refused(3)),
-    (10, "{s→}", Instead::Line("hello")),
-    (10, "{sé}", Instead::Refused(3)),
-    (10, "{s:aé}", Instead::Refused(3)),
-    (10, "{s:red→}", Instead::Line("hello")),
-    (10, "{[{s}]%aé}", Instead::Refused(3)),
-    (10, "{x{s:aé}}", Instead::Line("xhello")),
-    // Unicode lower case: the Kelvin sign is a k to the crate's colour words
-    (10, "{s:blac\u{212a}}", Instead::Line("hello")),
     (7, "{513}", Instead::Refused(3)),
     (7, "{s:bold:bold:513}", Instead::Refused(3)),
     (7, "{x{red:red:513}}", Instead::Refused(3)),
@@ -137,11 +150,32 @@ pub(crate) const PARTED: &[(u8, &str, Instead)] = &[
     ),
 ];
 
+/// Unicode's lower case: the Kelvin sign is a `k` to the crate's colour words, and here it is none; colour on.
+pub(crate) const KELVIN: &[(&str, Instead)] = &[
+    // 3 here: the word is no parameter
+    ("{s:blac\u{212a}}", Instead::Line("\x1b[30mhello\x1b[0m")),
+    ("{[{s}]%BLAC\u{212a}}", Instead::Line("\x1b[30m[hello]\x1b[0m")),
+    // here the word is dropped
+    ("{x{s:blac\u{212a}}}", Instead::Line("x\x1b[30mhello\x1b[0m")),
+    // here the word is a text of a group
+    ("{blac\u{212a} {s}}", Instead::Refused(3)),
+];
+
 #[derive(Clone, Copy)]
 pub(crate) enum Instead {
     Line(&'static str),
     Refused(u8),
     Panic,
+}
+
+impl Instead {
+    fn answer(self) -> Answer {
+        match self {
+            Instead::Line(text) => line(text),
+            Instead::Refused(number) => Answer::Refused(number),
+            Instead::Panic => Answer::Panic,
+        }
+    }
 }
 
 /// File, template, line: INFO, message `hello`, colour off.
@@ -283,12 +317,10 @@ impl Checks {
             self.ask(0, template, &info(), Answer::Refused(*number));
         }
         for (_, template, instead) in PARTED {
-            let expected = match instead {
-                Instead::Line(text) => line(text),
-                Instead::Refused(number) => Answer::Refused(*number),
-                Instead::Panic => Answer::Panic,
-            };
-            self.ask(0, template, &info(), expected);
+            self.ask(0, template, &info(), instead.answer());
+        }
+        for (template, instead) in KELVIN {
+            self.ask(COLOUR, template, &info(), instead.answer());
         }
         for (file, template, expected) in PATHS {
             self.ask(0, template, &with_file(file), line(expected));
@@ -354,6 +386,7 @@ impl Checks {
         self.ask(0, &names(257), &file, line("yhello"));
         self.ask(0, &format!("{{[{{s}}]%{}}}", "f".repeat(256)), &info(), Answer::Refused(3));
         self.ask(0, &format!("{{{}é}}{{s}}", "f".repeat(256)), &info(), Answer::Refused(3));
+        self.ask(0, &format!("{{{}\u{301}}}{{s}}", "f".repeat(256)), &info(), line("<file>hello"));
         let segments = |count: usize| "{l:1}".repeat(count - 1) + "{s}";
         let shown = |count: usize| line(&("0".repeat(count - 1) + "hello"));
         self.ask(0, &segments(64), &info(), shown(64));

@@ -7,6 +7,7 @@ pub mod examples;
 mod fuzz;
 pub mod inputs;
 pub mod judge;
+mod kelvin;
 pub mod meaning;
 #[cfg(all(test, feature = "port"))]
 mod migration;

@@ -9,7 +9,7 @@ const USAGE: &str = "usage: pralakuon-oracle lines | segments | text | examples 
        pralakuon-oracle sample FILE [SEED]
        pralakuon-oracle meaning LIST CRATES FOLDER STEP
        pralakuon-oracle seeds LIST FOLDER
-       pralakuon-oracle compare N [SEED] | compare paths | compare bytes   (built by oracle/compare)
+       pralakuon-oracle compare N [SEED] | compare paths | compare bytes | compare letters   (built by oracle/compare)
        pralakuon-oracle speed              (built by oracle/speed)
        pralakuon-oracle sheet [--colour] [--straight] --template TEXT [--record KEY=VALUE,..]..
        keys of a record: source level file line module timestamp message (the rest, commas too)";
@@ -34,7 +34,7 @@ fn main() -> ExitCode {
         },
         ["seeds", list, folder] => inputs::seeds(list, folder),
         #[cfg(feature = "port")]
-        ["compare", ref numbers @ ..] => return compare(numbers),
+        ["compare", ref words @ ..] => return compare(words),
         #[cfg(feature = "port")]
         ["speed"] => {
             pralakuon_oracle::speed::run();
@@ -61,18 +61,15 @@ fn usage() -> ExitCode {
 }
 
 #[cfg(feature = "port")]
-fn compare(numbers: &[&str]) -> ExitCode {
-    use pralakuon_oracle::compare::{run, run_bytes, run_paths, SEED};
-    if numbers == ["paths"] {
-        return ExitCode::from(u8::from(!run_paths()));
-    }
-    if numbers == ["bytes"] {
-        return ExitCode::from(u8::from(!run_bytes()));
-    }
-    let numbers: Vec<Option<u64>> = numbers.iter().map(|word| word.parse().ok()).collect();
-    let alike = match numbers[..] {
-        [Some(count)] => run(count, SEED),
-        [Some(count), Some(seed)] => run(count, seed),
+fn compare(words: &[&str]) -> ExitCode {
+    use pralakuon_oracle::compare::{run, run_bytes, run_letters, run_paths, SEED};
+    let numbers: Option<Vec<u64>> = words.iter().map(|word| word.parse().ok()).collect();
+    let alike = match (words, numbers.as_deref()) {
+        (["paths"], _) => run_paths(),
+        (["bytes"], _) => run_bytes(),
+        (["letters"], _) => run_letters(),
+        (_, Some([count])) => run(*count, SEED),
+        (_, Some([count, seed])) => run(*count, *seed),
         _ => return usage(),
     };
     ExitCode::from(u8::from(!alike))

@@ -1,5 +1,6 @@
-//! What document 01 rules, decided a second time and without a look at the port: which number a template, a record or a
-//! sheet gets, in document 01's order, and the line. Wherever the crate has an answer, it judges these rulings too.
+//! What document 01 rules, with document 02's letters (E3), decided a second time and without a look at the port: which
+//! number a template, a record or a sheet gets, in document 01's order, and the line. Wherever the crate has an answer, it
+//! judges these rulings too.
 
 pub mod line;
 mod reader;
@@ -15,7 +16,7 @@ pub const LINE_ROOM: usize = 65536;
 const MOST_SHEET: usize = 65536;
 const MOST_FIELD: usize = 4096;
 
-/// The segments of a template, or its number: 1 to 10.
+/// The segments of a template, or its number: 1 to 9.
 pub fn template(template: &[u8]) -> Result<Vec<Segment>, u8> {
     let segments = parse(template)?;
     let has_message = names(&segments, &|specifier| specifier == Specifier::Log);

@@ -2,10 +2,12 @@
 
 pub(crate) mod cases;
 mod counts;
+mod letters;
 mod limits;
 pub(crate) mod random;
 
 use crate::judge::{self, Answer, Shown};
+use crate::kelvin;
 use crate::sheet::{Record, Sheet, DEVICE};
 use crate::VERSIONS;
 use cases::Case;
@@ -13,7 +15,7 @@ use std::io;
 
 pub const SEED: u64 = 1;
 
-/// The number of a case whose difference is listed and no refusal.
+/// The number of a case with a listed difference that is no limit of the port.
 pub(crate) const LISTED: u8 = 255;
 
 pub fn run(file: &str, seed: u64) -> io::Result<()> {
@@ -47,9 +49,9 @@ After the first empty line, for each case: u8 N; u32 length and a session sheet;
 Output: what the port's program prints for the sheet if its lines are the crate's: each line and a newline, or `! 3` or
 `! 4` and a newline for the sheet; `panic` and a newline where the crate panics; `! 2` and `! 12` where it cannot be asked.
 N 0: the port prints the same.
-N 1, 2, 5 to 12: the port refuses with that number; the output is the crate's, which knows no such limit.
-N 255: no refusal, but a listed difference: a present empty file with {{f}} (the crate panics), a message that its color_diff
-lays out, a width with colour sequences above 65,535 (it panics).
+N 1, 2, 5 to 9, 11, 12: the port refuses with that number; the output is the crate's, which knows no such limit.
+N 255: another listed difference: a present empty file with {{f}} (the crate panics), a message that its color_diff lays
+out, a width with colour sequences above 65,535 (it panics), a colour word with the Kelvin sign (a k to it).
 
 "
     )
@@ -106,14 +108,13 @@ fn within_sizes(sheet: &Sheet, answer: &Answer) -> bool {
     sheet.template.len() <= 1024 && sheet.records.iter().all(record) && lines && sheet.write().len() <= 65536
 }
 
-/// A template that might be refused with 5 to 10: too wide a net on purpose, but nothing slips through.
+/// A template that might be refused with 5 to 9: too wide a net on purpose, but nothing slips through.
 fn may_cross(template: &[u8]) -> bool {
     let Ok(text) = std::str::from_utf8(template) else { return true };
     let backslash = text.ends_with('\\');
-    let touching = template.windows(2).any(|two| two[0].is_ascii_alphabetic() && two[1] >= 128);
     let wide = text.split(|c: char| !c.is_ascii_digit()).any(|digits| digits.trim_start_matches('0').len() > 2);
     let long = text.contains(&"f".repeat(256));
-    backslash || touching || wide || long || depth(text) > 8 || may_have_too_many(text)
+    backslash || wide || long || depth(text) > 8 || may_have_too_many(text)
 }
 
 /// Braces open at once, counted so that no closed brace stands deeper.
@@ -145,7 +146,8 @@ fn may_have_too_many(text: &str) -> bool {
 
 /// The differences of `LISTED`, but for the two that show as panics.
 fn is_listed(sheet: &Sheet) -> bool {
-    sheet.records.iter().any(may_be_diff)
+    let kelvin = std::str::from_utf8(&sheet.template).map_or(false, kelvin::decides);
+    kelvin || sheet.records.iter().any(may_be_diff)
 }
 
 /// A host's message is never laid out.

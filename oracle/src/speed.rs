@@ -22,6 +22,10 @@ const TIMESTAMP: &str = "0.002500";
 const MESSAGE: &str = "wall B3 crack 0.412 mm";
 const LINE_NUMBER: u32 = 118;
 
+/// A name that is tried as one and is none, in ASCII and with letters beyond it; and such letters where no name is tried.
+const NAMED: [&str; 4] =
+    ["{Temperature {L}%bold} {s}", "{Température {L}%bold} {s}", "{測定値 {L}%bold} {s}", "{t} Température: {s}"];
+
 /// Frames of a scan in a second.
 const RATE: f64 = 400.0;
 
@@ -63,10 +67,10 @@ fn built_ins() -> impl Iterator<Item = &'static str> {
 
 fn reading() {
     println!("| reading | crate, ns | port, ns | crate / port |\n|---|---|---|---|");
-    for template in built_ins() {
+    for template in built_ins().chain(NAMED) {
         let crates = || Template::read(black_box(template)).is_ok();
         let ports = || entries::check(black_box(template.as_bytes()));
-        assert_eq!((crates(), ports()), (true, 0), "a built-in is read");
+        assert_eq!((crates(), ports()), (true, 0), "{template} is read");
         let (theirs, ours) = in_turn(crates, ports);
         println!("| `{}` | {} | {} | {} |", template.escape_debug(), shown(theirs), shown(ours), shown(theirs / ours));
     }

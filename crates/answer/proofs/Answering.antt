@@ -16,7 +16,7 @@ use Rattle.words.specs.declared.Color.{Color}
 use Rattle.colour.specs.declared.Settings.{Settings}
 use Rattle.colour.specs.Shown.{textOf, joined}
 use Rattle.segments.specs.Segments.{LogSegments}
-use Rattle.template.specs.Template.{Template, read, refusal, readTemplate, topLevel}
+use Rattle.template.specs.Template.{Template, read, refusal, readTemplate}
 use Rattle.record.specs.declared.Places.{Places}
 use Rattle.record.specs.Layout.{Laid, laidOut, rightSize}
 use Rattle.record.specs.Placed.{laidBy}
@@ -183,13 +183,12 @@ packed-answer (refused r) = refl
 -- a template that is read is short
 pub read-short : (t : List ℕ) (s : LogSegments) → readTemplate t ≡ read s → length t ≤ 1024
 unfolding readTemplate
-read-short t s e = by (leb (length t) 1024) refl e
+read-short t s e = by (leb (length t) 1024) refl _ e
   where
-    by : (b : Bool) → leb (length t) 1024 ≡ b
-        → _≡_ {A = Template} (elim b [ true ↦ elim (valid t) [ true ↦ topLevel t | false ↦ refusal Refusal.TemplateNotUtf8 ] | false ↦ refusal Refusal.TemplateTooLong ]) (read s)
-        → length t ≤ 1024
-    by true h k = leb-true (length t) 1024 h
-    by false h k = absurd (let z : _≡_ {A = ℕ} 0 1 = cc in let y : ⊥ = omega arith in y)
+    by : (b : Bool) → leb (length t) 1024 ≡ b → (x : Template)
+        → _≡_ {A = Template} (elim b [ true ↦ x | false ↦ refusal Refusal.TemplateTooLong ]) (read s) → length t ≤ 1024
+    by true h x k = leb-true (length t) 1024 h
+    by false h x k = absurd (let z : _≡_ {A = ℕ} 0 1 = cc in let y : ⊥ = omega arith in y)
 
 module _ (s : Settings) (t : List ℕ) (l : Laid) (room : ℕ) where
   pub read-outcome : (c : LogSegments) → readTemplate t ≡ read c → recordOutcome s t c l room ≡ outcome s t l room

@@ -42,7 +42,7 @@ unfoldable pub byTemplate : Settings → List ℕ → Laid → ℕ → Template 
 byTemplate settings t d room (read s) = recordOutcome settings t s d room
 byTemplate settings t d room (refusal r) = refused r
 
--- "Order: 1; 2; then 3 and 5 to 10; 4; 14; then for file, module, timestamp, message in turn 11 before 12; 13": the record d by the
+-- Order: 1; 2; then 3 and 5 to 9; 4; 14; "then for file, module, timestamp, message in turn 11 before 12; 13": the record d by the
 -- template t, with so much room in the lent buffer
 unfoldable pub outcome : Settings → List ℕ → Laid → ℕ → Outcome
 outcome settings t d room = byTemplate settings t d room (readTemplate t)

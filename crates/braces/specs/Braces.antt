@@ -33,11 +33,11 @@ unfoldable pub markOf : ℕ → Mark
 markOf b = orNeither (lookup marks (b ∷ []))
 
 -- past the mark at place m, with k more braces open: how many are open then, and whether the next byte is skipped
-unfoldable pub marked : (ℕ → Bool → Closing) → ℕ → ℕ → Mark → Closing
-marked onward m k opens = onward (k + 1) false
-marked onward m k closes = elim (eqb k 0) [ true ↦ At m | false ↦ onward (k - 1) false ]
-marked onward m k escapes = onward k true
-marked onward m k neither = onward k false
+unfoldable pub pastMark : (ℕ → Bool → Closing) → ℕ → ℕ → Mark → Closing
+pastMark onward m k opens = onward (k + 1) false
+pastMark onward m k closes = elim (eqb k 0) [ true ↦ At m | false ↦ onward (k - 1) false ]
+pastMark onward m k escapes = onward k true
+pastMark onward m k neither = onward k false
 
 -- "A brace ends at its matching `}`; a backslash skips the character after it in this search only": n bytes are left from i on, k more
 -- braces are open, and the last says whether the byte at i stands after a backslash (no later byte of a character is a mark).
@@ -46,4 +46,4 @@ unfoldable pub closing : List ℕ → ℕ → ℕ → ℕ → Bool → Closing
 closing t zero i k true = HalfEscape
 closing t zero i k false = Nowhere
 closing t (suc n) i k true = closing t n (i + 1) k false
-closing t (suc n) i k false = marked (closing t n (i + 1)) i k (markOf (getD t i 0))
+closing t (suc n) i k false = pastMark (closing t n (i + 1)) i k (markOf (getD t i 0))

@@ -2,13 +2,14 @@
 -- p and q say that two results meet it; `past` and `here` lead to the lent buffer among the parameters. Assumes nothing.
 use mathlib.Core.Path.{refl}
 use Rattle.settled.specs.Settled.{Settled}
-use Rattle.settled.proofs.Equal.{same, here}
+use Rattle.settled.proofs.Equal.{same, here, past}
 use Rattle.contracts.proofs.Told.{told-metadata, told-format}
 use Rattle.refusals.proofs as refusals
 use Rattle.buffer.proofs as buffer
 use Rattle.utf8.proofs as utf8
 use Rattle.characters.proofs as characters
 use Rattle.runs.proofs as runs
+use Rattle.letters.proofs as letters
 use Rattle.spelling.proofs as spelling
 use Rattle.words.proofs as words
 use Rattle.segments.proofs as segments
@@ -40,6 +41,9 @@ least-settled _ _ _ _ _ _ p q = (same p q, refl)
 
 -- ---- utf8
 
+is-ascii-settled : Settled 1 utf8.is_ascii.Kinds.ps utf8.is_ascii.Kinds.r utf8.is_ascii.Reads.Post
+is-ascii-settled _ _ _ _ _ _ p q = (same p q, refl)
+
 is-utf8-settled : Settled 1 utf8.is_utf8.Kinds.ps utf8.is_utf8.Kinds.r utf8.is_utf8.Reads.Post
 is-utf8-settled _ _ _ _ _ _ p q = (same p q, refl)
 
@@ -59,11 +63,16 @@ letters-end-settled _ _ _ _ _ _ p q = (same (p .0) (q .0), refl)
 digits-end-settled : Settled 1 runs.digits_end.Kinds.ps runs.digits_end.Kinds.r runs.digits_end.Reads.Post
 digits-end-settled _ _ _ _ _ _ p q = (same (p .0) (q .0), refl)
 
-run-touches-settled : Settled 1 runs.run_touches.Kinds.ps runs.run_touches.Kinds.r runs.run_touches.Reads.Post
-run-touches-settled _ _ _ _ _ _ p q = (same p q, refl)
-
 width-settled : Settled 1 runs.numbers.width.Kinds.ps runs.numbers.width.Kinds.r runs.numbers.width.Reads.Post
 width-settled _ _ _ _ _ _ p q = (same p q, refl)
+
+-- ---- letters
+
+is-unmarked-settled : Settled 1 letters.doubt.is_unmarked.Kinds.ps letters.doubt.is_unmarked.Kinds.r letters.doubt.is_unmarked.Reads.Post
+is-unmarked-settled _ _ _ _ _ _ p q = (same p q, refl)
+
+mark-letters-settled : Settled 2 letters.table.mark_letters.Kinds.ps letters.table.mark_letters.Kinds.r letters.table.mark_letters.Reads.Post
+mark-letters-settled _ _ _ _ _ _ p q = (refl, past (here (same p q)))
 
 -- ---- spelling
 

@@ -11,7 +11,7 @@ use borrow.Author.Tests.{ltb-true, ltb-false}
 use Rattle.buffer.proofs.Sameness.{both-true}
 use Rattle.buffer.specs.Table.{Maybe, none, some}
 use Rattle.refusals.specs.declared.Refusal.{Refusal}
-use Rattle.refusals.specs.declared.Refusal.the-variants.{TemplateTooLong, TemplateNotUtf8, Failure, NoMessage, TooManySegments, TooDeep, TooWide, TooManyF, HalfEscape, NameTouchesLetter, FieldTooLong, FieldNotUtf8, LineTooLong, NotARecord, NotASheet}
+use Rattle.refusals.specs.declared.Refusal.the-variants.{TemplateTooLong, TemplateNotUtf8, Failure, NoMessage, TooManySegments, TooDeep, TooWide, TooManyF, HalfEscape, FieldTooLong, FieldNotUtf8, LineTooLong, NotARecord, NotASheet}
 use Rattle.refusals.specs.Numbers.{number}
 use Rattle.segments.specs.Segments.{LogSegments}
 use Rattle.template.specs.Template.{Template, read, refusal, readTemplate}
@@ -22,7 +22,7 @@ use Rattle.answer.specs.Answers.{Outcome, line, refused, inRoom, passed, record
 use Rattle.answer.proofs.Answering.{unknown-bit, wrong-size, is-call, read-outcome, unread-outcome, passed-outcome, refused-outcome}
 use Rattle.demands.specs.Conditions.{TemplateLong, TemplateBroken, Stops, Wordless, Accepts, BadlyMarked, RecordLong, RecordBroken, NoCall, IsCall, AcceptedCall, callLine}
 use Rattle.demands.specs.Demand1.{numberOf, CallDemand1}
-use Rattle.demands.proofs.Numbers.{refused-of, line-of, too-long-of, length-told, lengthOf, returns, room-line, room-none, room-length, numbered}
+use Rattle.demands.proofs.Numbers.{refused-of, line-of, too-long-of, never-ten, length-told, lengthOf, returns, room-line, room-none, room-length, numbered}
 use Rattle.demands.proofs.Templates.{RefusedWhen, accepted, refused-when, only-refused}
 use Rattle.demands.proofs.Records.{RecordRefusedWhen, passes-when}
 use Rattle.demands.proofs.Records as records
@@ -47,7 +47,6 @@ module _ (t : List ℕ) (settings : ℕ) (d : List ℕ) (room : ℕ) where
   CallRefusedWhen TooWide = IsCall settings d × Stops t TooWide
   CallRefusedWhen TooManyF = IsCall settings d × Stops t TooManyF
   CallRefusedWhen HalfEscape = IsCall settings d × Stops t HalfEscape
-  CallRefusedWhen NameTouchesLetter = IsCall settings d × Stops t NameTouchesLetter
   CallRefusedWhen FieldTooLong = IsCall settings d × IsRead × RecordLong (laidOut d)
   CallRefusedWhen FieldNotUtf8 = IsCall settings d × IsRead × RecordBroken (laidOut d)
   CallRefusedWhen (LineTooLong n) = HasLine
@@ -70,7 +69,6 @@ module _ (t : List ℕ) (settings : ℕ) (d : List ℕ) (room : ℕ) where
   by-template c TooWide w = (c, w)
   by-template c TooManyF w = (c, w)
   by-template c HalfEscape w = (c, w)
-  by-template c NameTouchesLetter w = (c, w)
   by-template c FieldTooLong w = absurd w
   by-template c FieldNotUtf8 w = absurd w
   by-template c (LineTooLong n) w = absurd w
@@ -90,7 +88,6 @@ module _ (t : List ℕ) (settings : ℕ) (d : List ℕ) (room : ℕ) where
   by-record c a TooWide w = absurd w
   by-record c a TooManyF w = absurd w
   by-record c a HalfEscape w = absurd w
-  by-record c a NameTouchesLetter w = absurd w
   by-record c a (LineTooLong n) w = absurd w
   by-record c a NotASheet w = absurd w
 
@@ -196,7 +193,7 @@ call-demand1 t settings d lent =
       is-7 = by TooWide (omega arith) (λ w. temp TooWide (w .0) (w .1));
       is-8 = by TooManyF (omega arith) (λ w. temp TooManyF (w .0) (w .1));
       is-9 = by HalfEscape (omega arith) (λ w. temp HalfEscape (w .0) (w .1));
-      is-10 = by NameTouchesLetter (omega arith) (λ w. temp NameTouchesLetter (w .0) (w .1));
+      never-10 = never-ten (lineEntry t settings d lent);
       is-4 = by NoMessage (omega arith) (λ w. temp NoMessage (w .0) (w .1));
       is-14 = by NotARecord (omega arith) (λ w. rec NotARecord (w .0) (w .1) (w .2));
       is-11 = by FieldTooLong (omega arith) (λ w. rec FieldTooLong (w .0) (w .1) (w .2));

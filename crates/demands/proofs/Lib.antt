@@ -1,6 +1,7 @@
 pub mod Calls
 pub mod Defined
 pub mod Holds
+pub mod Letters
 pub mod Numbers
 pub mod OfLines
 pub mod Quiet

@@ -9,7 +9,7 @@ use lib.Dec.{leb}
 use lib.ListN.{length, getD}
 use borrow.Author.Tests.{leb-true, leb-false, le-leb, lt-leb}
 use Rattle.refusals.specs.declared.Refusal.{Refusal}
-use Rattle.refusals.specs.declared.Refusal.the-variants.{TemplateTooLong, TemplateNotUtf8, Failure, NoMessage, TooManySegments, TooDeep, TooWide, TooManyF, HalfEscape, NameTouchesLetter, FieldTooLong, FieldNotUtf8, LineTooLong, NotARecord, NotASheet}
+use Rattle.refusals.specs.declared.Refusal.the-variants.{TemplateTooLong, TemplateNotUtf8, Failure, NoMessage, TooManySegments, TooDeep, TooWide, TooManyF, HalfEscape, FieldTooLong, FieldNotUtf8, LineTooLong, NotARecord, NotASheet}
 use Rattle.refusals.specs.Numbers.{number, lengthWith}
 use Rattle.builtin.specs.declared.Style.{Style}
 use Rattle.builtin.specs.Builtins.{builtinText}
@@ -18,7 +18,7 @@ use Rattle.demands.specs.Demand1.{numberOf, Returns, builtinEntry, Built
 
 -- ---- numbers
 
-pub numbers : (r : Refusal) → (1 ≤ number r) × (number r ≤ 15)
+pub numbers : (r : Refusal) → (1 ≤ number r) × (number r ≤ 15) × (number r ≡ 10 → ⊥)
 numbers TemplateTooLong = omega arith
 numbers TemplateNotUtf8 = omega arith
 numbers Failure = omega arith
@@ -28,14 +28,13 @@ numbers TooDeep = omega arith
 numbers TooWide = omega arith
 numbers TooManyF = omega arith
 numbers HalfEscape = omega arith
-numbers NameTouchesLetter = omega arith
 numbers FieldTooLong = omega arith
 numbers FieldNotUtf8 = omega arith
 numbers (LineTooLong n) = omega arith
 numbers NotARecord = omega arith
 numbers NotASheet = omega arith
 
--- the refusal with a number, and with the length that it tells
+-- the refusal with a number, and with the length that it tells (none has 0 or 10)
 refusalAt : ℕ → ℕ → Refusal
 refusalAt k n =
     getD
@@ -49,7 +48,7 @@ refusalAt k n =
     ∷ TooWide
     ∷ TooManyF
     ∷ HalfEscape
-    ∷ NameTouchesLetter
+    ∷ NotASheet
     ∷ FieldTooLong
     ∷ FieldNotUtf8
     ∷ LineTooLong n
@@ -68,7 +67,6 @@ by-number TooDeep = refl
 by-number TooWide = refl
 by-number TooManyF = refl
 by-number HalfEscape = refl
-by-number NameTouchesLetter = refl
 by-number FieldTooLong = refl
 by-number FieldNotUtf8 = refl
 by-number (LineTooLong n) = refl
@@ -89,7 +87,6 @@ lengthless TooDeep h = refl
 lengthless TooWide h = refl
 lengthless TooManyF h = refl
 lengthless HalfEscape h = refl
-lengthless NameTouchesLetter h = refl
 lengthless FieldTooLong h = refl
 lengthless FieldNotUtf8 h = refl
 lengthless (LineTooLong n) h = absurd (h refl)
@@ -123,6 +120,10 @@ unfolding lengthOf
 too-long-of (line s) e = let z : ⊥ = omega arith in absurd z
 too-long-of (refused r) e = ap refused (one-number r (LineTooLong (lengthWith r)) e refl)
 
+pub never-ten : (o : Outcome) → numberOf o ≡ 10 → ⊥
+never-ten (line s) e = omega arith
+never-ten (refused r) e = numbers r .2 e
+
 packs : (o : Outcome) → (packed o ≡ numberOf o + 256 * lengthOf o) × (numberOf o ≤ 15)
 unfolding packed lengthOf
 packs (line s) = (omega arith, omega arith)
@@ -147,7 +148,7 @@ unchanged (refused r) lent h = refl
 
 pub returns : (o : Outcome) (lent : List ℕ) → Returns o lent
 returns o lent = record {
-  numbered = packs o .1;
+  numbered = (packs o .1, never-ten o);
   told = number-told o lent;
   no-length = λ left answer m h g.
       let e = number-told o lent left answer m in

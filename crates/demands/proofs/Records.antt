@@ -12,7 +12,7 @@ use Rattle.buffer.proofs.Sameness.{both-true}
 use Rattle.buffer.specs.Table.{Maybe, none, some}
 use Rattle.utf8.specs.Utf8.{valid}
 use Rattle.refusals.specs.declared.Refusal.{Refusal}
-use Rattle.refusals.specs.declared.Refusal.the-variants.{TemplateTooLong, TemplateNotUtf8, Failure, NoMessage, TooManySegments, TooDeep, TooWide, TooManyF, HalfEscape, NameTouchesLetter, FieldTooLong, FieldNotUtf8, LineTooLong, NotARecord, NotASheet}
+use Rattle.refusals.specs.declared.Refusal.the-variants.{TemplateTooLong, TemplateNotUtf8, Failure, NoMessage, TooManySegments, TooDeep, TooWide, TooManyF, HalfEscape, FieldTooLong, FieldNotUtf8, LineTooLong, NotARecord, NotASheet}
 use Rattle.refusals.specs.Numbers.{number}
 use Rattle.record.specs.Layout.{Laid}
 use Rattle.record.specs.Contents.{hasFile, hasLine, hasModule}
@@ -133,7 +133,6 @@ FieldsWhen l (some TooDeep) = ⊥
 FieldsWhen l (some TooWide) = ⊥
 FieldsWhen l (some TooManyF) = ⊥
 FieldsWhen l (some HalfEscape) = ⊥
-FieldsWhen l (some NameTouchesLetter) = ⊥
 FieldsWhen l (some FieldTooLong) = First FieldLong l
 FieldsWhen l (some FieldNotUtf8) = First FieldBroken l
 FieldsWhen l (some (LineTooLong n)) = ⊥
@@ -153,7 +152,6 @@ further x rest p (some TooDeep) w = w
 further x rest p (some TooWide) w = w
 further x rest p (some TooManyF) w = w
 further x rest p (some HalfEscape) w = w
-further x rest p (some NameTouchesLetter) w = w
 further x rest p (some (LineTooLong n)) w = w
 further x rest p (some NotARecord) w = w
 further x rest p (some NotASheet) w = w
@@ -219,7 +217,6 @@ RecordRefusedWhen d TooDeep = ⊥
 RecordRefusedWhen d TooWide = ⊥
 RecordRefusedWhen d TooManyF = ⊥
 RecordRefusedWhen d HalfEscape = ⊥
-RecordRefusedWhen d NameTouchesLetter = ⊥
 RecordRefusedWhen d FieldTooLong = RecordLong d
 RecordRefusedWhen d FieldNotUtf8 = RecordBroken d
 RecordRefusedWhen d (LineTooLong n) = ⊥
@@ -244,7 +241,6 @@ module _ (d : Laid) where
   well-marked h (some TooWide) w = w
   well-marked h (some TooManyF) w = w
   well-marked h (some HalfEscape) w = w
-  well-marked h (some NameTouchesLetter) w = w
   well-marked h (some (LineTooLong n)) w = w
   well-marked h (some NotARecord) w = absurd w
   well-marked h (some NotASheet) w = w
@@ -275,7 +271,6 @@ module _ (d : Laid) where
   only-refused TooWide w = absurd w
   only-refused TooManyF w = absurd w
   only-refused HalfEscape w = absurd w
-  only-refused NameTouchesLetter w = absurd w
   only-refused (LineTooLong n) w = absurd w
   only-refused NotASheet w = absurd w
 
@@ -296,7 +291,6 @@ module _ (d : Laid) where
   three TooWide w = absurd w
   three TooManyF w = absurd w
   three HalfEscape w = absurd w
-  three NameTouchesLetter w = absurd w
   three (LineTooLong n) w = absurd w
   three NotASheet w = absurd w
 

@@ -10,6 +10,7 @@ use Rattle.buffer.specs.Computing as buffer
 use Rattle.utf8.specs.Computing as utf8
 use Rattle.characters.specs.Computing as characters
 use Rattle.runs.specs.Computing as runs
+use Rattle.letters.specs.Computing as letters
 use Rattle.words.specs.Computing as words
 use Rattle.segments.specs.Computing as segments
 use Rattle.parts.specs.Computing as parts
@@ -86,7 +87,7 @@ seen a t d h k l =
 
 -- a message that is a colour sequence is not seen in straight mode
 call-premise-needed : ((t d : List ℕ) → SameSeen 3 t d) → ⊥
-unfolding buffer.computes utf8.computes characters.computes runs.computes words.computes
+unfolding buffer.computes utf8.computes characters.computes runs.computes letters.computes words.computes
     segments.computes parts.computes braces.computes building.computes template.computes
     colour.computes settings.computes records.computes checks.computes formats.computes paths.computes fields.computes answer.computes
 call-premise-needed h =
@@ -97,7 +98,7 @@ call-premise-needed h =
 
 -- in the crate's mode the padding of a group falls short
 call-crate-not-same : ((t d : List ℕ) → SameSeen 1 t d) → ⊥
-unfolding buffer.computes utf8.computes characters.computes runs.computes words.computes
+unfolding buffer.computes utf8.computes characters.computes runs.computes letters.computes words.computes
     segments.computes parts.computes braces.computes building.computes template.computes
     colour.computes settings.computes records.computes checks.computes formats.computes paths.computes fields.computes answer.computes
 call-crate-not-same h =

@@ -10,7 +10,7 @@ use lib.ListN.{length}
 use borrow.Author.Tests.{leb-false, lt-leb, eqb-false, ne-eqb}
 use Rattle.buffer.specs.Table.{Maybe, none, some}
 use Rattle.refusals.specs.declared.Refusal.{Refusal}
-use Rattle.refusals.specs.declared.Refusal.the-variants.{TemplateTooLong, TemplateNotUtf8, Failure, NoMessage, TooManySegments, TooDeep, TooWide, TooManyF, HalfEscape, NameTouchesLetter, FieldTooLong, FieldNotUtf8, LineTooLong, NotARecord, NotASheet}
+use Rattle.refusals.specs.declared.Refusal.the-variants.{TemplateTooLong, TemplateNotUtf8, Failure, NoMessage, TooManySegments, TooDeep, TooWide, TooManyF, HalfEscape, FieldTooLong, FieldNotUtf8, LineTooLong, NotARecord, NotASheet}
 use Rattle.refusals.specs.Numbers.{number}
 use Rattle.segments.specs.Segments.{LogSegments}
 use Rattle.template.specs.Template.{Template, read, refusal, readTemplate}
@@ -18,7 +18,7 @@ use Rattle.sheet.specs.Sheets.{Sheet, bodyCount, contentsEnd, bodyBytes, bodies
 use Rattle.answer.specs.Answers.{Outcome, line, refused, inRoom}
 use Rattle.outcomes.specs.Program.{recordLines, sheetText, maybeSheetText, sessionText, fitting, sessionOutcome, sessionEntry}
 use Rattle.demands.specs.Demand1.{numberOf, NoSheet, SheetDemand1, SheetWhose, AcceptedSheet, SessionDemand1}
-use Rattle.demands.proofs.Numbers.{refused-of, line-of, too-long-of, length-told, lengthOf, returns, room-line, room-none, room-length, numbered}
+use Rattle.demands.proofs.Numbers.{refused-of, line-of, too-long-of, never-ten, length-told, lengthOf, returns, room-line, room-none, room-length, numbered}
 use Rattle.demands.proofs.Templates.{RefusedWhen, refused-when, only-refused}
 
 -- ---- what is no sheet
@@ -102,7 +102,6 @@ module _ (d : List ℕ) (room : ℕ) where
   SessionRefusedWhen TooWide = Unread TooWide
   SessionRefusedWhen TooManyF = Unread TooManyF
   SessionRefusedWhen HalfEscape = Unread HalfEscape
-  SessionRefusedWhen NameTouchesLetter = Unread NameTouchesLetter
   SessionRefusedWhen FieldTooLong = ⊥
   SessionRefusedWhen FieldNotUtf8 = ⊥
   SessionRefusedWhen (LineTooLong n) = HasLines
@@ -125,7 +124,6 @@ module _ (d : List ℕ) (room : ℕ) where
   by-template TooWide w = w
   by-template TooManyF w = w
   by-template HalfEscape w = w
-  by-template NameTouchesLetter w = w
   by-template FieldTooLong w = w .2
   by-template FieldNotUtf8 w = w .2
   by-template (LineTooLong n) w = absurd (w .2)
@@ -213,7 +211,7 @@ session-demand1 d lent =
       is-7 = by TooWide (omega arith) (unread TooWide);
       is-8 = by TooManyF (omega arith) (unread TooManyF);
       is-9 = by HalfEscape (omega arith) (unread HalfEscape);
-      is-10 = by NameTouchesLetter (omega arith) (unread NameTouchesLetter);
+      never-10 = never-ten (sessionEntry d lent);
       is-4 = by NoMessage (omega arith) (unread NoMessage);
       never-14 = λ e. by NotARecord (omega arith) (λ w. absurd w) .0 e;
       never-11 = λ e. by FieldTooLong (omega arith) (λ w. absurd w) .0 e;

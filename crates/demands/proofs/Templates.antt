@@ -9,8 +9,9 @@ use lib.Dec.{leb}
 use lib.ListN.{length}
 use borrow.Author.Tests.{leb-true, leb-false, le-leb, lt-leb}
 use Rattle.utf8.specs.Utf8.{valid}
+use Rattle.letters.specs.Marked.{marked}
 use Rattle.refusals.specs.declared.Refusal.{Refusal}
-use Rattle.refusals.specs.declared.Refusal.the-variants.{TemplateTooLong, TemplateNotUtf8, Failure, NoMessage, TooManySegments, TooDeep, TooWide, TooManyF, HalfEscape, NameTouchesLetter, FieldTooLong, FieldNotUtf8, LineTooLong, NotARecord, NotASheet}
+use Rattle.refusals.specs.declared.Refusal.the-variants.{TemplateTooLong, TemplateNotUtf8, Failure, NoMessage, TooManySegments, TooDeep, TooWide, TooManyF, HalfEscape, FieldTooLong, FieldNotUtf8, LineTooLong, NotARecord, NotASheet}
 use Rattle.refusals.specs.Numbers.{number}
 use Rattle.words.specs.Trying.{Tried, fit, misfit, refused, while-it-fits, repeated}
 use Rattle.building.specs.Reading.{Top}
@@ -34,7 +35,6 @@ RefusedWhen t TooDeep = Stops t TooDeep
 RefusedWhen t TooWide = Stops t TooWide
 RefusedWhen t TooManyF = Stops t TooManyF
 RefusedWhen t HalfEscape = Stops t HalfEscape
-RefusedWhen t NameTouchesLetter = Stops t NameTouchesLetter
 RefusedWhen t FieldTooLong = ⊥
 RefusedWhen t FieldNotUtf8 = ⊥
 RefusedWhen t (LineTooLong n) = ⊥
@@ -68,7 +68,6 @@ module _ (t : List ℕ) where
   stopped TooWide h w = w
   stopped TooManyF h w = w
   stopped HalfEscape h w = w
-  stopped NameTouchesLetter h w = w
   stopped TemplateTooLong h w = absurd h
   stopped TemplateNotUtf8 h w = absurd h
   stopped NoMessage h w = absurd h
@@ -82,21 +81,21 @@ module _ (t : List ℕ) where
   message-when s g true e = (g, e)
   message-when s g false e = (s, g, e)
 
-  ended-when : Legible t → (x : Tried Top) → reading t ≡ x → When t (ended x)
+  ended-when : Legible t → (x : Tried Top) → reading (marked t) ≡ x → When t (ended x)
   unfolding ended withMessage
   ended-when h (fit s j) e = message-when (s .segments) (h, (s .made, j, e)) (namedAmong isLog (s .segments)) refl
-  ended-when h misfit e = absurd (fits _ (length t) 0 _ e)
-  ended-when h (refused r) e = stopped r (reading-refuses t r e) (h, e)
+  ended-when h misfit e = absurd (fits _ (length (marked t)) 0 _ e)
+  ended-when h (refused r) e = stopped r (reading-refuses (marked t) r e) (h, e)
 
   pub template-when : When t (readTemplate t)
   unfolding readTemplate topLevel
   template-when = by (leb (length t) 1024) refl (valid t) refl
     where
       by : (b : Bool) → leb (length t) 1024 ≡ b → (v : Bool) → valid t ≡ v
-          → When t (elim b [ true ↦ elim v [ true ↦ topLevel t | false ↦ refusal TemplateNotUtf8 ] | false ↦ refusal TemplateTooLong ])
+          → When t (elim b [ true ↦ elim v [ true ↦ topLevel (marked t) | false ↦ refusal TemplateNotUtf8 ] | false ↦ refusal TemplateTooLong ])
       by false e v k = leb-false (length t) 1024 e
       by true e false k = (leb-true (length t) 1024 e, k)
-      by true e true k = ended-when (leb-true (length t) 1024 e, k) (reading t) refl
+      by true e true k = ended-when (leb-true (length t) 1024 e, k) (reading (marked t)) refl
 
   -- ---- and nothing else does
 
@@ -108,7 +107,7 @@ module _ (t : List ℕ) where
   unfolding readTemplate
   broken h = rw (le-leb (length t) 1024 (h .0), h .1, readTemplate)
 
-  begun : Legible t → readTemplate t ≡ ended (reading t)
+  begun : Legible t → readTemplate t ≡ ended (reading (marked t))
   unfolding readTemplate topLevel
   begun h = rw (le-leb (length t) 1024 (h .0), h .1, readTemplate)
 
@@ -131,7 +130,6 @@ module _ (t : List ℕ) where
   only-refused TooWide w = stops TooWide w
   only-refused TooManyF w = stops TooManyF w
   only-refused HalfEscape w = stops HalfEscape w
-  only-refused NameTouchesLetter w = stops NameTouchesLetter w
   only-refused FieldTooLong w = absurd w
   only-refused FieldNotUtf8 w = absurd w
   only-refused (LineTooLong n) w = absurd w
@@ -161,10 +159,10 @@ unfolding checkOf
 refusal-of (read s) r h e = let z : ⊥ = omega (arith, numbers r, e) in absurd z
 refusal-of (refusal q) r h e = ap refusal (one-refusal q r h e)
 
-to-ten : (x : Template) → ((r : Refusal) → x ≡ refusal r → number r ≤ 10) → checkOf x ≤ 10
+to-nine : (x : Template) → ((r : Refusal) → x ≡ refusal r → number r ≤ 9) → checkOf x ≤ 9
 unfolding checkOf
-to-ten (read s) h = omega arith
-to-ten (refusal r) h = h r refl
+to-nine (read s) h = omega arith
+to-nine (refusal r) h = h r refl
 
 pub template-demand1 : (t : List ℕ) → TemplateDemand1 t
 unfolding checkOf
@@ -187,8 +185,8 @@ template-demand1 t =
       is-7 = no TooWide (omega arith);
       is-8 = no TooManyF (omega arith);
       is-9 = no HalfEscape (omega arith);
-      is-10 = no NameTouchesLetter (omega arith);
-      numbered = to-ten x (template-refuses t);
+      never-10 = λ e. omega (arith, e, to-nine x (template-refuses t));
+      numbered = to-nine x (template-refuses t);
     }
 
 -- ---- whether it names the time

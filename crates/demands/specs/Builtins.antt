@@ -11,6 +11,7 @@ use Rattle.buffer.specs.Computing as buffer
 use Rattle.utf8.specs.Computing as utf8
 use Rattle.characters.specs.Computing as characters
 use Rattle.runs.specs.Computing as runs
+use Rattle.letters.specs.Computing as letters
 use Rattle.words.specs.Computing as words
 use Rattle.segments.specs.Computing as segments
 use Rattle.parts.specs.Computing as parts
@@ -45,7 +46,7 @@ isRead (refusal r) = false
 
 -- whether each of some templates is read
 pub allRead : List (List ℕ) → Bool
-unfolding buffer.computes utf8.computes characters.computes runs.computes words.computes
+unfolding buffer.computes utf8.computes characters.computes runs.computes letters.computes words.computes
     segments.computes parts.computes braces.computes building.computes template.computes
 allRead [] = true
 allRead (t ∷ rest) = isRead (readTemplate t) && allRead rest

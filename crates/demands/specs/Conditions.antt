@@ -6,6 +6,7 @@ use mathlib.Core.List.{List, [], _∷_}
 use mathlib.Core.Logic.{_⊎_, _≢_}
 use lib.ListN.{length}
 use Rattle.utf8.specs.Utf8.{valid}
+use Rattle.letters.specs.Marked.{marked}
 use Rattle.refusals.specs.declared.Refusal.{Refusal}
 use Rattle.words.specs.Trying as trying
 use Rattle.segments.specs.Segments.{LogSegments, isLog, namedAmong}
@@ -29,13 +30,13 @@ TemplateBroken t = (length t ≤ 1024) × (valid t ≡ false)
 abbrev pub Legible : List ℕ → Type 0
 Legible t = (length t ≤ 1024) × (valid t ≡ true)
 
--- 3 and 5 to 10: reading it stops with the refusal r, "the first met in the crate's own order of trying"
+-- 3 and 5 to 9: reading it, with its letters marked, stops with the refusal r, "the first met in the crate's own order of trying"
 abbrev pub Stops : List ℕ → Refusal → Type 0
-Stops t r = Legible t × (reading t ≡ trying.refused r)
+Stops t r = Legible t × (reading (marked t) ≡ trying.refused r)
 
 -- reading it gives the segments s: so many of them, up to a place
 abbrev pub Gives : List ℕ → LogSegments → Type 0
-Gives t s = Legible t × ((made : ℕ) × (place : ℕ) × (reading t ≡ trying.fit (record { segments = s; made = made }) place))
+Gives t s = Legible t × ((made : ℕ) × (place : ℕ) × (reading (marked t) ≡ trying.fit (record { segments = s; made = made }) place))
 
 -- 4: "read, but no `{s}` at any depth; the empty template too"
 abbrev pub Wordless : List ℕ → Type 0

@@ -8,7 +8,7 @@ use mathlib.Core.Logic.{_↔_, _⊎_, _≢_}
 use lib.ListN.{length}
 use Rattle.buffer.specs.Table.{none, some}
 use Rattle.refusals.specs.declared.Refusal.{Refusal}
-use Rattle.refusals.specs.declared.Refusal.the-variants.{Failure, TooManySegments, TooDeep, TooWide, TooManyF, HalfEscape, NameTouchesLetter, FieldTooLong, FieldNotUtf8, NotARecord}
+use Rattle.refusals.specs.declared.Refusal.the-variants.{Failure, TooManySegments, TooDeep, TooWide, TooManyF, HalfEscape, FieldTooLong, FieldNotUtf8, NotARecord}
 use Rattle.refusals.specs.Numbers.{number}
 use Rattle.segments.specs.Segments.{LogSegments}
 use Rattle.template.specs.Template.{read, readTemplate, namesTimestamp}
@@ -31,8 +31,8 @@ numberOf (refused r) = number r
 
 -- of an outcome o, whatever answer and whatever buffer meet it
 pub record Returns (o : Outcome) (lent : List ℕ) : Type 0 where
-  -- "a line or one of document 01's numbered refusals"
-  pub numbered : numberOf o ≤ 15
+  -- "a line or one of document 01's numbered refusals"; document 02, E3: "Refusal 10 is no longer given"
+  pub numbered : (numberOf o ≤ 15) × (numberOf o ≢ 10)
   -- "Every refusal returns its number"
   pub told : (left : List ℕ) (answer : ℕ) → Meets o lent left answer → answer % 256 ≡ numberOf o
   -- "(13 also the length; no other refusal returns one)"
@@ -42,7 +42,7 @@ pub record Returns (o : Outcome) (lent : List ℕ) : Type 0 where
 
 -- ---- any bytes as template
 
--- the number of a template, which is also what is answered about a template alone: 0 where it is read, else 1 to 10
+-- the number of a template, which is also what is answered about a template alone: 0 where it is read, else 1 to 9
 abbrev pub templateNumber : List ℕ → ℕ
 templateNumber t = checkOf (readTemplate t)
 
@@ -69,10 +69,10 @@ pub record TemplateDemand1 (t : List ℕ) : Type 0 where
   pub is-8 : templateNumber t ≡ 8 ↔ Stops t TooManyF
   -- "a search for a closing brace meets a backslash as the last byte of its text (the crate panics)"
   pub is-9 : templateNumber t ≡ 9 ↔ Stops t HalfEscape
-  -- "a non-empty run of ASCII letters, tried as a name, touches a byte of 128 or more"
-  pub is-10 : templateNumber t ≡ 10 ↔ Stops t NameTouchesLetter
+  -- "Refusal 10 is no longer given" (document 02, E3)
+  pub never-10 : templateNumber t ≢ 10
   -- and no other
-  pub numbered : templateNumber t ≤ 10
+  pub numbered : templateNumber t ≤ 9
 
 -- "the yes/no whether a template names `{t}`": 256 for yes, 0 for no, or the template's number
 pub record TimestampDemand1 (t : List ℕ) : Type 0 where
@@ -118,7 +118,7 @@ pub record SheetDemand1 (d : List ℕ) : Type 0 where
 abbrev pub callNumber : List ℕ → ℕ → List ℕ → List ℕ → ℕ
 callNumber t settings d lent = numberOf (lineEntry t settings d lent)
 
--- each number "Given exactly when", "Order: 15; 1; 2; then 3 and 5 to 10, the first met in the crate's own order of trying; 4; 14; then for
+-- each number "Given exactly when", in the order 15; 1; 2; then 3 and 5 to 9, "the first met in the crate's own order of trying; 4; 14; then for
 -- file, module, timestamp, message in turn 11 before 12; 13"
 pub record CallDemand1 (t : List ℕ) (settings : ℕ) (d lent : List ℕ) : Type 0 where
   -- "an unknown settings bit or a record of the wrong size is 15"
@@ -139,8 +139,8 @@ pub record CallDemand1 (t : List ℕ) (settings : ℕ) (d lent : List ℕ) : Typ
   pub is-8 : callNumber t settings d lent ≡ 8 ↔ (IsCall settings d × Stops t TooManyF)
   -- "a search for a closing brace meets a backslash as the last byte of its text (the crate panics)"
   pub is-9 : callNumber t settings d lent ≡ 9 ↔ (IsCall settings d × Stops t HalfEscape)
-  -- "a non-empty run of ASCII letters, tried as a name, touches a byte of 128 or more"
-  pub is-10 : callNumber t settings d lent ≡ 10 ↔ (IsCall settings d × Stops t NameTouchesLetter)
+  -- "Refusal 10 is no longer given" (document 02, E3)
+  pub never-10 : callNumber t settings d lent ≢ 10
   -- "read, but no `{s}` at any depth; the empty template too"
   pub is-4 : callNumber t settings d lent ≡ 4 ↔ (IsCall settings d × Wordless t)
   -- "source over 1, level over 5, host without level, presence mask over 7, or an absent field with a non-zero length or line"
@@ -192,8 +192,8 @@ pub record SessionDemand1 (d lent : List ℕ) : Type 0 where
   pub is-8 : sessionNumber d lent ≡ 8 ↔ SheetWhose d λ t. Stops t TooManyF
   -- "a search for a closing brace meets a backslash as the last byte of its text (the crate panics)"
   pub is-9 : sessionNumber d lent ≡ 9 ↔ SheetWhose d λ t. Stops t HalfEscape
-  -- "a non-empty run of ASCII letters, tried as a name, touches a byte of 128 or more"
-  pub is-10 : sessionNumber d lent ≡ 10 ↔ SheetWhose d λ t. Stops t NameTouchesLetter
+  -- "Refusal 10 is no longer given" (document 02, E3)
+  pub never-10 : sessionNumber d lent ≢ 10
   -- "read, but no `{s}` at any depth; the empty template too"
   pub is-4 : sessionNumber d lent ≡ 4 ↔ SheetWhose d Wordless
   pub never-14 : sessionNumber d lent ≢ 14

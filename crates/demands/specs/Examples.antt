@@ -2,8 +2,8 @@
 use Prim.Native.Nat.{ℕ}
 use mathlib.Core.Path.{_≡_, refl}
 use mathlib.Core.Bool.{Bool, true, false}
-use mathlib.Core.List.{List, [], _∷_}
-use Rattle.buffer.specs.Bytes.{bytes}
+use mathlib.Core.List.{List, [], _∷_, _++_}
+use Rattle.buffer.specs.Bytes.{character, bytes}
 use Rattle.refusals.specs.Numbers.{number}
 use Rattle.colour.specs.declared.Settings.{Settings}
 use Rattle.colour.specs.Sequences.{visible}
@@ -14,6 +14,7 @@ use Rattle.buffer.specs.Computing as buffer
 use Rattle.utf8.specs.Computing as utf8
 use Rattle.characters.specs.Computing as characters
 use Rattle.runs.specs.Computing as runs
+use Rattle.letters.specs.Computing as letters
 use Rattle.words.specs.Computing as words
 use Rattle.segments.specs.Computing as segments
 use Rattle.parts.specs.Computing as parts
@@ -102,6 +103,18 @@ leadingDots =
     ∷ example (plain off) (hello 3 1 (bytes "/./a")) (bytes "{fff}{s}") (prints (bytes "//ahello"))
     ∷ []
 
+-- document 02, E3: "Our French crews write `{Température {L}%bold} {s}` and get refusal 10"; "a colour word spelled with the Kelvin sign (U+212A), which
+-- Rust lower-cases to k, isn't a colour here"
+abbrev pub accented : List Example
+accented =
+    example (plain off) info (bytes "{Température {L}%bold} {s}") (prints (bytes "Température INFO  hello"))
+    ∷ example (plain off) info (bytes "{sé}") (refuses 3)
+    ∷ example (plain off) info (bytes "{s→}") (prints (bytes "hello"))
+    ∷ example (plain off) info (bytes "{aé {s}}") (prints (bytes "aé hello"))
+    ∷ example (plain off) info (bytes "{x{s:aé}}") (prints (bytes "xhello"))
+    ∷ example (plain off) info (bytes "{s:blac" ++ (character 0x212A ++ bytes "}")) (refuses 3)
+    ∷ []
+
 -- ---- what the definitions say, put as the example puts it
 
 -- an outcome, put as the example puts it
@@ -117,7 +130,7 @@ put-as (refuses n) (refused r) = refuses (number r)
 
 -- room enough for each of them
 pub said : List Example → List Says
-unfolding buffer.computes utf8.computes characters.computes runs.computes words.computes
+unfolding buffer.computes utf8.computes characters.computes runs.computes letters.computes words.computes
     segments.computes parts.computes braces.computes building.computes template.computes
     colour.computes records.computes checks.computes formats.computes paths.computes fields.computes answer.computes
 said [] = []
@@ -133,7 +146,12 @@ pub starred : said examples ≡ expected examples
 unfolding said expected put-as
 starred = refl
 
--- and what the request says
+-- and what the request about a leading dot says
 pub dotted : said leadingDots ≡ expected leadingDots
 unfolding said expected put-as
 dotted = refl
+
+-- and what the one about accented letters says
+pub lettered : said accented ≡ expected accented
+unfolding said expected put-as
+lettered = refl

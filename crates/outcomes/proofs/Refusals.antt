@@ -5,7 +5,7 @@ use Prim.Native.Nat.{ℕ, _+_, _-_, _≤_, _<_}
 use native.Mathlib.Omega.{arith}
 use lib.ListN.{length}
 use Rattle.refusals.specs.declared.Refusal.{Refusal}
-use Rattle.refusals.specs.declared.Refusal.the-variants.{TemplateTooLong, TemplateNotUtf8, Failure, NoMessage, TooManySegments, TooDeep, TooWide, TooManyF, HalfEscape, NameTouchesLetter, FieldTooLong, FieldNotUtf8, LineTooLong, NotARecord, NotASheet}
+use Rattle.refusals.specs.declared.Refusal.the-variants.{TemplateTooLong, TemplateNotUtf8, Failure, NoMessage, TooManySegments, TooDeep, TooWide, TooManyF, HalfEscape, FieldTooLong, FieldNotUtf8, LineTooLong, NotARecord, NotASheet}
 use Rattle.refusals.specs.Numbers.{number}
 use Rattle.fields.specs.Texts.{digits, decimalText}
 use Rattle.outcomes.specs.Program.{refusalLine}
@@ -21,7 +21,6 @@ one-digit TooDeep h = refl
 one-digit TooWide h = refl
 one-digit TooManyF h = refl
 one-digit HalfEscape h = refl
-one-digit NameTouchesLetter h = absurd (omega (arith, h))
 one-digit FieldTooLong h = absurd (omega (arith, h))
 one-digit FieldNotUtf8 h = absurd (omega (arith, h))
 one-digit (LineTooLong n) h = absurd (omega (arith, h))
@@ -39,7 +38,6 @@ two-digits TooDeep h = absurd (omega (arith, h))
 two-digits TooWide h = absurd (omega (arith, h))
 two-digits TooManyF h = absurd (omega (arith, h))
 two-digits HalfEscape h = absurd (omega (arith, h))
-two-digits NameTouchesLetter h = refl
 two-digits FieldTooLong h = refl
 two-digits FieldNotUtf8 h = refl
 two-digits (LineTooLong n) h = refl
@@ -57,7 +55,6 @@ refusal-most TooDeep = omega arith
 refusal-most TooWide = omega arith
 refusal-most TooManyF = omega arith
 refusal-most HalfEscape = omega arith
-refusal-most NameTouchesLetter = omega arith
 refusal-most FieldTooLong = omega arith
 refusal-most FieldNotUtf8 = omega arith
 refusal-most (LineTooLong n) = omega arith

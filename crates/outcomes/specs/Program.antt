@@ -61,7 +61,7 @@ sessionOutcome d room = fitting room (sessionText d)
 abbrev pub sessionEntry : List ℕ → List ℕ → Outcome
 sessionEntry d lent = sessionOutcome d (length lent)
 
--- "for 1 to 10 and 15 a single `! N` and newline for the whole sheet"
+-- "for 1 to 10 and 15 a single `! N` and newline for the whole sheet" (10 is no longer given)
 unfoldable pub asOutput : Outcome → List ℕ
 asOutput (line s) = s
 asOutput (refused r) = refusalLine r

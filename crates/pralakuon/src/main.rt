@@ -87,9 +87,6 @@ fn explain(r: Refusal) {
         Refusal::HalfEscape => say(
             b"the sheet is refused, 9: a backslash ends its template inside a brace\n",
         ),
-        Refusal::NameTouchesLetter => say(
-            b"the sheet is refused, 10: a name in its template touches a letter beyond ASCII\n",
-        ),
         Refusal::NotASheet => say(
             b"the sheet is refused, 15: it is not laid out as one, has an unknown settings bit, or has more than 65,536 bytes\n",
         ),

@@ -20,9 +20,9 @@ ghost use Rattle.pralakuon_c.specs.Version.{version};
 // The same three numbers stand in include/pralakuon.h and in host/Cargo.toml.
 const MAJOR: u64 = 0;
 
-const MINOR: u64 = 2;
+const MINOR: u64 = 3;
 
-const PATCH: u64 = 1;
+const PATCH: u64 = 0;
 
 // The line of the record d by the template t.
 #[no_mangle]

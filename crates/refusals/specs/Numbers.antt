@@ -1,7 +1,7 @@
 -- "Numbers given instead of a line" (document 01): the number of each refusal, and the one length that is returned. Assumes nothing.
 use Prim.Native.Nat.{ℕ}
 use Rattle.refusals.specs.declared.Refusal.{Refusal}
-use Rattle.refusals.specs.declared.Refusal.the-variants.{TemplateTooLong, TemplateNotUtf8, Failure, NoMessage, TooManySegments, TooDeep, TooWide, TooManyF, HalfEscape, NameTouchesLetter, FieldTooLong, FieldNotUtf8, LineTooLong, NotARecord, NotASheet}
+use Rattle.refusals.specs.declared.Refusal.the-variants.{TemplateTooLong, TemplateNotUtf8, Failure, NoMessage, TooManySegments, TooDeep, TooWide, TooManyF, HalfEscape, FieldTooLong, FieldNotUtf8, LineTooLong, NotARecord, NotASheet}
 
 -- the number of each refusal, with the sentence that says when it is given
 abbrev pub number : Refusal → ℕ
@@ -23,8 +23,7 @@ number TooWide = 7
 number TooManyF = 8
 -- "a search for a closing brace meets a backslash as the last byte of its text"
 number HalfEscape = 9
--- "a non-empty run of ASCII letters, tried as a name, touches a byte of 128 or more"
-number NameTouchesLetter = 10
+-- (document 02, E3: "Refusal 10 is no longer given"; its number stays free)
 -- "a field over 4,096 bytes"
 number FieldTooLong = 11
 -- "a field not UTF-8"
@@ -47,7 +46,6 @@ lengthWith TooDeep = 0
 lengthWith TooWide = 0
 lengthWith TooManyF = 0
 lengthWith HalfEscape = 0
-lengthWith NameTouchesLetter = 0
 lengthWith FieldTooLong = 0
 lengthWith FieldNotUtf8 = 0
 lengthWith (LineTooLong n) = n

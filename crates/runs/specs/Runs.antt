@@ -2,14 +2,18 @@
 use Prim.Native.Nat.{ℕ, zero, suc, _+_, _-_, _*_}
 use mathlib.Core.Bool.{Bool, true, false, _||_, _&&_}
 use mathlib.Core.List.{List, [], _∷_}
-use lib.Dec.{eqb, leb, ltb}
+use lib.Dec.{eqb, ltb}
 use lib.ListN.{getD}
 use Rattle.buffer.specs.Bytes.{byte}
 use Rattle.utf8.specs.Utf8.{_to_, within}
 
--- a byte that is an ASCII letter
+-- what stands for each byte of a letter beyond ASCII where names are read (letters/specs/Marked.antt); UTF-8 has no byte 255
+abbrev pub letterMark : ℕ
+letterMark = 0xFF
+
+-- a byte of a letter: one of ASCII, or beyond it a mark
 unfoldable pub letter : ℕ → Bool
-letter b = within (byte "A" to byte "Z") b || within (byte "a" to byte "z") b
+letter b = within (byte "A" to byte "Z") b || within (byte "a" to byte "z") b || eqb b letterMark
 
 -- a byte that is an ASCII digit
 unfoldable pub digit : ℕ → Bool
@@ -50,7 +54,3 @@ lettersEnd t i e = runEnd letter t (e - i) i
 -- where the run of digits from i on ends
 abbrev pub digitsEnd : List ℕ → ℕ → ℕ → ℕ
 digitsEnd t i e = runEnd digit t (e - i) i
-
--- the run from i up to j is not empty and touches a byte of 128 or more
-unfoldable pub touches : List ℕ → ℕ → ℕ → ℕ → Bool
-touches t i j e = ltb i j && ltb j e && leb 0x80 (getD t j 0)

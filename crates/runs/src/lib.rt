@@ -1,10 +1,13 @@
-// Bytes of a template at places, and runs of them. Letters are ASCII's: where the crate's `char::is_alphabetic` reads on, the name is refused.
+// Bytes of a template at places, and runs of them. In place of a letter beyond ASCII stand marks, so that a letter is told by one byte.
 ghost use mathlib.Core.Path.{_≡_};
 ghost use Prim.Native.Nat.{_≤_, _-_};
 ghost use lib.ListN.{length};
-ghost use Rattle.runs.specs.Runs.{letter, digit, madeOf, stands, runEnd, lettersEnd, digitsEnd, touches};
+ghost use Rattle.runs.specs.Runs.{letter, digit, madeOf, stands, runEnd, lettersEnd, digitsEnd};
 
 pub mod numbers;
+
+// Stands for each byte of a letter beyond ASCII.
+pub const MARK: u8 = 0xFF;
 
 // Whether the byte b stands at i, which is before e.
 pub fn stands_at(b: u8, t: &[u8], i: usize, e: usize) -> bool
@@ -29,7 +32,10 @@ fn is_letter(b: u8) -> bool
     if b < b'a' {
         return false;
     }
-    b <= b'z'
+    if b <= b'z' {
+        return true;
+    }
+    b == MARK
 }
 
 fn is_digit(b: u8) -> bool
@@ -83,18 +89,4 @@ pub fn digits_end(t: &[u8], from: usize, to: usize) -> usize
     ensures within { λ r. ⌜ (from ≤ r) × (r ≤ to) ⌝ }
 {
     run_end(false, t, from, to)
-}
-
-// Whether the run from `from` up to j, if there is one, is followed by a byte of 128 or more.
-pub fn run_touches(t: &[u8], from: usize, j: usize, to: usize) -> bool
-    requires { ⌜ to ≤ length (now t) ⌝ }
-    ensures { λ r. ⌜ r ≡ touches (now (t .entry)) from j to ⌝ }
-{
-    if j <= from {
-        return false;
-    }
-    if to <= j {
-        return false;
-    }
-    128 <= t[j]
 }

@@ -1,4 +1,4 @@
--- Which refusals a template can meet: reading meets 3 and 5 to 10, and a whole template 1, 2 and 4 besides. Assumes nothing.
+-- Which refusals a template can meet: reading meets 3 and 5 to 9, and a whole template 1, 2 and 4 besides. Assumes nothing.
 use Prim.Native.Nat.{ℕ, zero, suc, _+_, _-_, _≤_}
 use mathlib.Core.Path.{_≡_, refl, subst}
 use mathlib.Core.Bool.{Bool, true, false, not, _||_}
@@ -10,10 +10,11 @@ use Rattle.buffer.specs.Bytes.{part, same}
 use Rattle.buffer.specs.Table.{Maybe, none, some, lookup}
 use Rattle.utf8.specs.Utf8.{valid}
 use Rattle.refusals.specs.declared.Refusal.{Refusal}
-use Rattle.refusals.specs.declared.Refusal.the-variants.{TemplateTooLong, TemplateNotUtf8, Failure, NoMessage, TooManySegments, TooDeep, TooWide, TooManyF, HalfEscape, NameTouchesLetter, FieldTooLong, FieldNotUtf8, LineTooLong, NotARecord, NotASheet}
+use Rattle.refusals.specs.declared.Refusal.the-variants.{TemplateTooLong, TemplateNotUtf8, Failure, NoMessage, TooManySegments, TooDeep, TooWide, TooManyF, HalfEscape, FieldTooLong, FieldNotUtf8, LineTooLong, NotARecord, NotASheet}
 use Rattle.words.specs.declared.LogMetadata.{LogMetadata}
 use Rattle.words.specs.declared.Alignment.{Alignment}
-use Rattle.runs.specs.Runs.{stands, runEnd, touches, lettersEnd, digitsEnd, decimal}
+use Rattle.letters.specs.Marked.{marked}
+use Rattle.runs.specs.Runs.{stands, runEnd, lettersEnd, digitsEnd, decimal}
 use Rattle.words.specs.Trying.{Tried, fit, misfit, refused, _or-else_, _then_, while-it-fits, repeated, further, listed}
 use Rattle.words.specs.Words.{Sense, stands-for, nothing, not-allowed, sense, specifiers, countOfF, repeatedF, orRepeatedF, specifierOf, parameterOf, sensed, nameTo, name, specifierAt, widthOf, digitsTo, aligned, alignments, byteAt, widthAt, parameterAt}
 use Rattle.segments.specs.Segments.{LogSegment, LogSegments, anySpecifier, isLog, namedAmong}
@@ -29,7 +30,7 @@ use Rattle.refusals.specs.Numbers.{number, lengthWith}
 
 -- ---- the refusals
 
--- 3 and 5 to 10
+-- 3 and 5 to 9
 abbrev pub ByReading : Refusal → Type 0
 ByReading TemplateTooLong = ⊥
 ByReading TemplateNotUtf8 = ⊥
@@ -40,7 +41,6 @@ ByReading TooDeep = Unit {0}
 ByReading TooWide = Unit {0}
 ByReading TooManyF = Unit {0}
 ByReading HalfEscape = Unit {0}
-ByReading NameTouchesLetter = Unit {0}
 ByReading FieldTooLong = ⊥
 ByReading FieldNotUtf8 = ⊥
 ByReading (LineTooLong n) = ⊥
@@ -139,9 +139,7 @@ parameter-sense w = sense-plain _
 
 name-met : {A : Type 0} (f : List ℕ → Sense A) → ((w : List ℕ) → Senses (f w)) → (t : List ℕ) (i e : ℕ) → Met (name f t i e)
 unfolding name nameTo
-name-met f h t i e =
-    let j = lettersEnd t i e in
-    choice (touches t i j e) (refused Refusal.NameTouchesLetter) (sensed j (f (part i j t))) tt (sensed-met j (f (part i j t)) (h (part i j t)))
+name-met f h t i e = let j = lettersEnd t i e in sensed-met j (f (part i j t)) (h (part i j t))
 
 specifier-met : (t : List ℕ) (i e : ℕ) → Met (specifierAt t i e)
 unfolding specifierAt
@@ -259,30 +257,29 @@ module _ (t : List ℕ) where
 reading-met : (t : List ℕ) → Met (reading t)
 reading-met t = repeats (topAt t (length t)) (top-met t (length t)) (length t) 0 _
 
--- what stops reading is 3 or 5 to 10
+-- what stops reading is 3 or 5 to 9
 pub reading-refuses : (t : List ℕ) (r : Refusal) → reading t ≡ refused r → ByReading r
 reading-refuses t r e = subst Met e (reading-met t)
 
-to-ten : (r : Refusal) → ByReading r → number r ≤ 10
-to-ten Failure h = omega arith
-to-ten TooManySegments h = omega arith
-to-ten TooDeep h = omega arith
-to-ten TooWide h = omega arith
-to-ten TooManyF h = omega arith
-to-ten HalfEscape h = omega arith
-to-ten NameTouchesLetter h = omega arith
-to-ten TemplateTooLong h = absurd h
-to-ten TemplateNotUtf8 h = absurd h
-to-ten NoMessage h = absurd h
-to-ten FieldTooLong h = absurd h
-to-ten FieldNotUtf8 h = absurd h
-to-ten (LineTooLong n) h = absurd h
-to-ten NotARecord h = absurd h
-to-ten NotASheet h = absurd h
+to-nine : (r : Refusal) → ByReading r → number r ≤ 9
+to-nine Failure h = omega arith
+to-nine TooManySegments h = omega arith
+to-nine TooDeep h = omega arith
+to-nine TooWide h = omega arith
+to-nine TooManyF h = omega arith
+to-nine HalfEscape h = omega arith
+to-nine TemplateTooLong h = absurd h
+to-nine TemplateNotUtf8 h = absurd h
+to-nine NoMessage h = absurd h
+to-nine FieldTooLong h = absurd h
+to-nine FieldNotUtf8 h = absurd h
+to-nine (LineTooLong n) h = absurd h
+to-nine NotARecord h = absurd h
+to-nine NotASheet h = absurd h
 
 abbrev Told : Template → Type 0
 Told (read s) = Unit {0}
-Told (refusal r) = number r ≤ 10
+Told (refusal r) = number r ≤ 9
 
 told-choice : (b : Bool) (x y : Template) → Told x → Told y → Told (elim b [ true ↦ x | false ↦ y ])
 told-choice true x y h g = h
@@ -296,21 +293,21 @@ ended-told : (x : Tried Top) → Met x → Told (ended x)
 unfolding ended
 ended-told (fit s j) h = message-told (s .segments)
 ended-told misfit h = message-told segments.none
-ended-told (refused r) h = to-ten r h
+ended-told (refused r) h = to-nine r h
 
 template-told : (t : List ℕ) → Told (readTemplate t)
 unfolding readTemplate topLevel
 template-told t =
     told-choice (leb (length t) 1024) _ (refusal TemplateTooLong)
-    (told-choice (valid t) (topLevel t) (refusal TemplateNotUtf8) (ended-told (reading t) (reading-met t)) (omega arith))
+    (told-choice (valid t) (topLevel (marked t)) (refusal TemplateNotUtf8) (ended-told (reading (marked t)) (reading-met (marked t))) (omega arith))
     (omega arith)
 
--- what refuses a template is 1 to 10
-pub template-refuses : (t : List ℕ) (r : Refusal) → readTemplate t ≡ refusal r → number r ≤ 10
+-- what refuses a template is 1 to 9
+pub template-refuses : (t : List ℕ) (r : Refusal) → readTemplate t ≡ refusal r → number r ≤ 9
 template-refuses t r e = subst Told e (template-told t)
 
 -- and tells no length: of all refusals only that of a line that is too long does
-pub unsized : (r : Refusal) → number r ≤ 10 → lengthWith r ≡ 0
+pub unsized : (r : Refusal) → number r ≤ 9 → lengthWith r ≡ 0
 unsized TemplateTooLong h = refl
 unsized TemplateNotUtf8 h = refl
 unsized Failure h = refl
@@ -320,7 +317,6 @@ unsized TooDeep h = refl
 unsized TooWide h = refl
 unsized TooManyF h = refl
 unsized HalfEscape h = refl
-unsized NameTouchesLetter h = refl
 unsized FieldTooLong h = refl
 unsized FieldNotUtf8 h = refl
 unsized (LineTooLong n) h = let z : ⊥ = omega arith in absurd z

@@ -6,8 +6,12 @@ use mathlib.Core.List.{List}
 use native.Mathlib.Omega.{arith}
 use lib.Dec.{leb, ltb}
 use lib.ListN.{length, take}
+use lib.Seq.{take-at}
 use borrow.Author.Tests.{le-leb, lt-leb, le-ltb}
+use Rattle.buffer.specs.Buffer.{putAt}
 use Rattle.utf8.specs.Utf8.{valid}
+use Rattle.letters.specs.Marked.{marked}
+use Rattle.letters.proofs.Marks.{marked-length}
 use Rattle.refusals.specs.declared.Refusal.{Refusal}
 use Rattle.runs.specs.Runs.{stands, runEnd}
 use Rattle.words.specs.Trying.{Tried, fit, misfit, refused, _or-else_, _then_, repeated}
@@ -145,6 +149,13 @@ module _ (cells : List ℕ) (n : ℕ) (b : Bool) (q : b ≡ namedAmong (isWanted
   unfolding tellParsed withMessage
   message-none h = sym (rw (sym (message (chainAt cells n)) ∙ sym q ∙ h, withMessage))
 
+-- ---- a template whose letters are marked
+
+-- what stands at the front of the copy is the template, marked
+pub marked-front : (d t : List ℕ) → take (length t) (putAt d 0 (marked t)) ≡ marked t
+unfolding putAt
+marked-front d t = take-at (marked t) _ (length t) (marked-length t)
+
 -- ---- a whole template
 
 module _ (t cells : List ℕ) where
@@ -156,7 +167,7 @@ module _ (t cells : List ℕ) where
   unfolding tellParsed readTemplate
   not-text h v = sym (rw (le-leb (length t) 1024 h, v, readTemplate))
 
-  pub is-read : length t ≤ 1024 → valid t ≡ true → (x : Template) → x ≡ topLevel t → x ≡ readTemplate t
+  pub is-read : length t ≤ 1024 → valid t ≡ true → (x : Template) → x ≡ topLevel (marked t) → x ≡ readTemplate t
   unfolding readTemplate
   is-read h v x q = q ∙ sym (rw (le-leb (length t) 1024 h, v, readTemplate))
 

@@ -5,6 +5,7 @@ use mathlib.Core.List.{List}
 use lib.Dec.{leb}
 use lib.ListN.{length}
 use Rattle.utf8.specs.Utf8.{valid}
+use Rattle.letters.specs.Marked.{marked}
 use Rattle.refusals.specs.declared.Refusal.{Refusal}
 use Rattle.words.specs.Trying.{Tried, fit, misfit, refused, repeated}
 use Rattle.segments.specs.Segments.{LogSegments, none, isLog, isTimestamp, namedAmong}
@@ -29,15 +30,16 @@ ended (refused r) = refusal r
 abbrev pub reading : List ℕ → Tried Top
 reading t = repeated (topAt t (length t)) (length t) 0 (record { segments = none; made = 0 })
 
--- a template that is short enough and UTF-8
+-- a template that is short enough and UTF-8, its letters marked
 unfoldable pub topLevel : List ℕ → Template
 topLevel t = ended (reading t)
 
--- "Order: 1; 2; then 3 and 5 to 10, the first met in the crate's own order of trying; 4"
+-- Order: 1; 2; then 3 and 5 to 9, "the first met in the crate's own order of trying"; 4.
+-- "Please decide letters as Rust's `is_alphabetic` does" (document 02, E3): it is read with its letters beyond ASCII marked
 unfoldable pub readTemplate : List ℕ → Template
 readTemplate t =
     elim (leb (length t) 1024) [
-      | true ↦ elim (valid t) [ true ↦ topLevel t | false ↦ refusal Refusal.TemplateNotUtf8 ]
+      | true ↦ elim (valid t) [ true ↦ topLevel (marked t) | false ↦ refusal Refusal.TemplateNotUtf8 ]
       | false ↦ refusal Refusal.TemplateTooLong
     ]
 

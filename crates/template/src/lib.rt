@@ -7,6 +7,7 @@ use segments::Wanted;
 ghost use mathlib.Core.Path.{_≡_};
 ghost use Prim.Native.Nat.{_+_, _≤_};
 ghost use lib.ListN.{length};
+ghost use Rattle.letters.specs.Marked.{marked};
 ghost use Rattle.segments.specs.Pool.{chainAt};
 ghost use Rattle.building.specs.Reading.{topSegmentAt};
 ghost use Rattle.template.specs.Template.{withMessage, topLevel, readTemplate, namesTimestamp};
@@ -70,6 +71,28 @@ fn parse_all(t: &[u8], cells: &mut [usize]) -> Parsed
     format_contains_log_specifier(cells, n)
 }
 
+// Bytes of a template that is read from a small copy: most are no longer.
+const SHORT: usize = 256;
+
+// A template with letters beyond ASCII is read from a copy in which they are marked: places in the copy are places in the template. A small copy is cleared
+// sooner. And where `mark_letters` is called at two places, the compiler leaves it alone: its table takes six times the stack of the copy, and is gone
+// before the reading begins.
+fn parse_marked(t: &[u8], cells: &mut [usize]) -> Parsed
+    requires { ⌜ (512 ≤ length (now cells)) × (length (now t) ≤ 1024) ⌝ }
+    ensures { λ r. ⌜ tellParsed r (now (cells .exit)) ≡ topLevel (marked (now (t .entry))) ⌝ }
+    ensures keeps { λ r. ⌜ ParsedKeeps (now (cells .exit)) r ⌝ }
+{
+    let n = t.len();
+    if n <= SHORT {
+        let mut marks: [u8; 256] = [0; 256];
+        letters::table::mark_letters(t, &mut marks);
+        return parse_all(&marks[..n], cells);
+    }
+    let mut marks: [u8; 1024] = [0; 1024];
+    letters::table::mark_letters(t, &mut marks);
+    parse_all(&marks[..n], cells)
+}
+
 pub fn parse(t: &[u8], cells: &mut [usize]) -> Parsed
     requires { ⌜ 512 ≤ length (now cells) ⌝ }
     ensures { λ r. ⌜ tellParsed r (now (cells .exit)) ≡ readTemplate (now (t .entry)) ⌝ }
@@ -78,10 +101,17 @@ pub fn parse(t: &[u8], cells: &mut [usize]) -> Parsed
     if 1024 < t.len() {
         return Parsed::Refused(Refusal::TemplateTooLong);
     }
+    // most templates are ASCII, and that is seen at a glance
+    if utf8::is_ascii(t) {
+        return parse_all(t, cells);
+    }
     if !utf8::is_utf8(t) {
         return Parsed::Refused(Refusal::TemplateNotUtf8);
     }
-    parse_all(t, cells)
+    if letters::doubt::is_unmarked(t) {
+        return parse_all(t, cells);
+    }
+    parse_marked(t, cells)
 }
 
 // Whether the segments name the time.

@@ -3,7 +3,8 @@ use mathlib.Core.Path.{_≡_, ap, _∙_}
 use mathlib.Core.List.{List, [], _∷_, _++_}
 use Prim.Native.Nat.{ℕ, zero, suc, max, _+_, _-_, _<_, _≤_}
 use native.Mathlib.Omega.{arith}
-use lib.ListN.{length, getD}
+use lib.ListN.{length, getD, take}
+use lib.Seq.{take-all}
 use Rattle.buffer.specs.Bytes.{part}
 use Rattle.buffer.proofs.Parts.{part-snoc}
 use Rattle.utf8.specs.Windows.{topOf}
@@ -31,3 +32,13 @@ pub top-bound : (s : List ℕ) (i n k : ℕ) → i + n ≤ length s → i ≤ k 
 top-bound s i n k g f h =
     let e : (k + 1) + ((i + n) - (k + 1)) ≡ i + n = omega arith in
     omega (arith, ap (λ (j : ℕ). topOf (part i j s)) e, bound-by s i k ((i + n) - (k + 1)) f (omega arith))
+
+-- a text is a part of itself
+pub top-whole : (s : List ℕ) → topOf (part 0 (0 + length s) s) ≡ topOf s
+top-whole s = let z : (0 + length s) - 0 ≡ length s = omega arith in ap (λ (n : ℕ). topOf (take n s)) z ∙ ap topOf (take-all (length s) s (omega arith))
+
+-- no byte of a text is above its greatest
+pub top-any : (s : List ℕ) (k : ℕ) → getD s k 0 ≤ topOf s
+top-any [] k = omega arith
+top-any (b ∷ s) zero = omega arith
+top-any (b ∷ s) (suc k) = omega (arith, top-any s k)

@@ -1,6 +1,6 @@
 -- Laws of `reached`, what the front of a text leaves to come, and of `Told`: three bytes tell it at every place. Assumes nothing.
 use mathlib.Core.Path.{_≡_, refl, ap, sym, _∙_, subst}
-use mathlib.Core.Bool.{false}
+use mathlib.Core.Bool.{true, false}
 use mathlib.Core.Logic.{_⊎_, inl, inr}
 use mathlib.Core.List.{List, [], _∷_}
 use Prim.Native.Nat.{ℕ, zero, suc, _+_, _-_, _<_, _≤_}
@@ -9,7 +9,7 @@ use native.Mathlib.Omega.{arith}
 use lib.ListN.{length, take, drop, getD, take-append-drop}
 use lib.Seq.{take-suc, take-length}
 use Rattle.utf8.specs.Utf8.{Awaited, awaited, broken, step, run, complete, valid}
-use Rattle.utf8.specs.Windows.{reached, past, Lives, Follows, ended, Told, Unbroken, dueAfter}
+use Rattle.utf8.specs.Windows.{reached, topOf, past, Lives, Follows, ended, Told, Unbroken, dueAfter}
 use Rattle.utf8.proofs.Running.{run-append, run-broken, step-broken, step-ascii}
 use Rattle.utf8.proofs.Following.{follows-on, due-some}
 
@@ -115,3 +115,11 @@ ascii-through s i e zero h g f r =
 ascii-through s i e (suc n) h g f r =
     ascii-through s (i + 1) e n (omega arith) g (λ k m. f k (omega arith))
     (ascii-on s i (omega arith) (f i (omega arith) (omega arith)) r)
+
+ascii-run : (s : List ℕ) → topOf s < 0x80 → run (awaited []) s ≡ awaited []
+ascii-run [] h = refl
+ascii-run (b ∷ s) h = ap (λ (x : Awaited). run x s) (step-ascii b (omega (arith, h))) ∙ ascii-run s (omega (arith, h))
+
+-- ASCII is UTF-8
+pub ascii-valid : (s : List ℕ) → topOf s < 0x80 → valid s ≡ true
+ascii-valid s h = ap complete (ascii-run s h)

@@ -6,9 +6,10 @@ use whole::characters_to;
 ghost use mathlib.Core.Path.{_≡_};
 ghost use mathlib.Core.List.{[]};
 ghost use Prim.Native.Nat.{_+_, _-_, _<_, _≤_};
+ghost use lib.Dec.{ltb};
 ghost use lib.ListN.{length};
 ghost use Rattle.utf8.specs.Utf8.{awaited, valid};
-ghost use Rattle.utf8.specs.Windows.{reached};
+ghost use Rattle.utf8.specs.Windows.{reached, topOf};
 
 mod ascii;
 mod blocks;
@@ -20,6 +21,13 @@ const STRIDE: usize = 128;
 
 // Bytes that have room for a block and for the characters before it, which take six at most.
 const ROOM: usize = 38;
+
+// Whether `s` is ASCII.
+pub fn is_ascii(s: &[u8]) -> bool
+    ensures { λ r. ⌜ r ≡ ltb (topOf (now (s .entry))) 0x80 ⌝ }
+{
+    greatest(s, 0, s.len()) < 0x80
+}
 
 // Whether `s` is UTF-8.
 pub fn is_utf8(s: &[u8]) -> bool

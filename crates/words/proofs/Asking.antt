@@ -1,7 +1,6 @@
 -- Laws of parameters: words of several tables, widths. Assumes nothing.
 use Prim.Native.Nat.{ℕ, _+_, _-_, _≤_, _<_, min}
 use mathlib.Core.Path.{_≡_, refl, sym, ap, _∙_}
-use mathlib.Core.Bool.{false}
 use mathlib.Core.List.{List, [], _∷_}
 use native.Mathlib.Omega.{arith}
 use lib.ListN.{length, getD}
@@ -15,7 +14,7 @@ use Rattle.words.specs.declared.Alignment.the-variants.{Left}
 use Rattle.words.specs.declared.Padding.{Padding}
 use Rattle.words.specs.declared.Parameter.{Parameter}
 use Rattle.words.specs.declared.FormatRead.{FormatRead}
-use Rattle.runs.specs.Runs.{decimal, digit, lowered, lettersEnd, digitsEnd, touches}
+use Rattle.runs.specs.Runs.{decimal, digit, lowered, lettersEnd, digitsEnd}
 use Rattle.words.specs.Trying.{fit, misfit, refused, _or-else_}
 use Rattle.words.specs.Within.{tellFormat, Wide, FormatWithin}
 use Rattle.words.specs.Words.{sense, either, sensed, levelColours, colours, styles, parameterOf, name, alignments, paddingOf, widthOf, digitsTo, aligned, byteAt, widthAt}
@@ -69,9 +68,9 @@ parameter-tried j w =
     same-sense j _ _ (either-grouped (lookup levelColours w) (lookup colours (lowered w)) (lookup styles w))
     ∙ sensed-either j (either (lookup levelColours w) (lookup colours (lowered w))) (lookup styles w)
 
-pub no-parameter : (t : List ℕ) (i e j : ℕ) → j ≡ lettersEnd t i e → touches t i j e ≡ false → j ≤ i → name parameterOf t i e ≡ misfit
+pub no-parameter : (t : List ℕ) (i e j : ℕ) → j ≡ lettersEnd t i e → j ≤ i → name parameterOf t i e ≡ misfit
 unfolding parameterOf sense either lookup lowered same sensed
-no-parameter t i e j q b h = name-sensed parameterOf t i e j q b ∙ ap (λ (w : List ℕ). sensed j (parameterOf w)) (part-none t i j h)
+no-parameter t i e j q h = name-sensed parameterOf t i e j q ∙ ap (λ (w : List ℕ). sensed j (parameterOf w)) (part-none t i j h)
 
 -- ---- widths: the digits end at j
 

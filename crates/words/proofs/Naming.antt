@@ -12,7 +12,7 @@ use Rattle.refusals.specs.declared.Refusal.{Refusal}
 use Rattle.words.specs.declared.LogMetadata.{LogMetadata}
 use Rattle.words.specs.declared.LogMetadata.the-variants.{FileName}
 use Rattle.words.specs.declared.MetadataRead.{MetadataRead}
-use Rattle.runs.specs.Runs.{lettersEnd, touches}
+use Rattle.runs.specs.Runs.{lettersEnd}
 use Rattle.words.specs.Trying.{fit, misfit, refused}
 use Rattle.words.specs.Within.{tellMetadata, Named, MetadataWithin}
 use Rattle.words.specs.Words.{Sense, stands-for, nothing, not-allowed, sensed, nameTo, name, specifiers, specifierOf, orRepeatedF, repeatedF, countOfF}
@@ -23,13 +23,9 @@ use Rattle.buffer.proofs.Parts.{part-step}
 -- ---- the run tried as a name ends at j
 
 module _ {A : Type 0} (senseOf : List ℕ → Sense A) (t : List ℕ) (i e j : ℕ) (q : j ≡ lettersEnd t i e) where
-  pub name-touches : touches t i j e ≡ true → name senseOf t i e ≡ refused Refusal.NameTouchesLetter
+  pub name-sensed : name senseOf t i e ≡ sensed j (senseOf (part i j t))
   unfolding name nameTo
-  name-touches b = ap (nameTo senseOf t i e) (sym q) ∙ rw (b, nameTo)
-
-  pub name-sensed : touches t i j e ≡ false → name senseOf t i e ≡ sensed j (senseOf (part i j t))
-  unfolding name nameTo
-  name-sensed b = ap (nameTo senseOf t i e) (sym q) ∙ rw (b, nameTo)
+  name-sensed = ap (nameTo senseOf t i) (sym q)
 
 module _ {A : Type 0} (j : ℕ) (s : Sense A) where
   pub sensed-fit : (a : A) → s ≡ stands-for a → sensed j s ≡ fit a j

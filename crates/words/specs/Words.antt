@@ -21,7 +21,7 @@ use Rattle.words.specs.declared.Padding.{Padding}
 use Rattle.words.specs.declared.Padding.the-variants.{Space, Zero}
 use Rattle.words.specs.declared.Parameter.{Parameter}
 use Rattle.words.specs.Trying.{Tried, fit, misfit, refused, _or-else_}
-use Rattle.runs.specs.Runs.{lowered, decimal, lettersEnd, digitsEnd, touches}
+use Rattle.runs.specs.Runs.{lowered, decimal, lettersEnd, digitsEnd}
 
 -- ---- what a word stands for
 
@@ -118,14 +118,13 @@ sensed j (stands-for a) = fit a j
 sensed j nothing = misfit
 sensed j (not-allowed r) = refused r
 
--- "Names are whole letter runs": the run from i up to j, tried as a name.
--- Refusal 10: "a non-empty run of ASCII letters, tried as a name, touches a byte of 128 or more"; it comes before 8
-unfoldable pub nameTo : {A : Type 0} → (List ℕ → Sense A) → List ℕ → ℕ → ℕ → ℕ → Tried A
-nameTo senseOf t i e j = elim (touches t i j e) [ true ↦ refused Refusal.NameTouchesLetter | false ↦ sensed j (senseOf (part i j t)) ]
+-- "Names are whole letter runs": the run from i up to j, tried as a name
+unfoldable pub nameTo : {A : Type 0} → (List ℕ → Sense A) → List ℕ → ℕ → ℕ → Tried A
+nameTo senseOf t i j = sensed j (senseOf (part i j t))
 
 -- the whole letter run at i, tried as a name
 unfoldable pub name : {A : Type 0} → (List ℕ → Sense A) → List ℕ → ℕ → ℕ → Tried A
-name senseOf t i e = nameTo senseOf t i e (lettersEnd t i e)
+name senseOf t i e = nameTo senseOf t i (lettersEnd t i e)
 
 -- a specifier tried at i
 unfoldable pub specifierAt : List ℕ → ℕ → ℕ → Tried LogMetadata

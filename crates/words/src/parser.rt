@@ -12,7 +12,6 @@ use refusals::Refusal;
 use runs::digits_end;
 use runs::letters_end;
 use runs::numbers::width;
-use runs::run_touches;
 use spelling::is_repeated_f;
 use spelling::word_index;
 ghost use mathlib.Core.Path.{_≡_};
@@ -33,9 +32,6 @@ pub fn parse_metadata(t: &[u8], from: usize, to: usize) -> MetadataRead
     ensures within { λ r. ⌜ MetadataWithin from to r ⌝ }
 {
     let j = letters_end(t, from, to);
-    if run_touches(t, from, j, to) {
-        return MetadataRead::Refused(Refusal::NameTouchesLetter);
-    }
     if j - from == 1 {
         return letter_metadata(t, from);
     }
@@ -227,9 +223,6 @@ fn parse_name(t: &[u8], from: usize, to: usize) -> FormatRead
     ensures within { λ r. ⌜ FormatWithin from to r ⌝ }
 {
     let j = letters_end(t, from, to);
-    if run_touches(t, from, j, to) {
-        return FormatRead::Refused(Refusal::NameTouchesLetter);
-    }
     if j <= from {
         return FormatRead::Misfit;
     }

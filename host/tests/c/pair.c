@@ -265,6 +265,8 @@ static void unknown_numbers(void)
 
     for (number = 16; number < 300; number++)
         CHECK(strcmp(pralakuon_refusal_text(number), "an unknown refusal") == 0);
+    /* 10 is no longer given. */
+    CHECK(strcmp(pralakuon_refusal_text(10), "an unknown refusal") == 0);
     for (number = 6; number < 300; number++)
         CHECK(strcmp(pralakuon_level_name(number), "an unknown level") == 0);
     CHECK(strcmp(pralakuon_refusal_text(UINT_MAX), "an unknown refusal") == 0);

@@ -45,7 +45,7 @@ impl Case {
     pub fn compare(&self, colour: bool, more: usize, seen: &mut Seen) -> Result<(), String> {
         match self {
             Case::Line { template, record, unknown } => {
-                let ruled = Ruled::new(template)?;
+                let ruled = Ruled::new(template, &mut seen.listed)?;
                 if !colour {
                     calls::check(template, ruled.refusal())?;
                     calls::timestamp(template, ruled.names_timestamp())?;
@@ -106,16 +106,16 @@ fn compare_visible(text: &[u8], more: usize) -> Result<(), String> {
 
 /// What a session call owes: a refusal of the whole sheet, or the lines of its records.
 fn session(sheet: Option<&Sheet>, seen: &mut Seen) -> Result<Owed, String> {
-    let mut whole = |number: u8| {
+    let whole = |number: u8, seen: &mut Seen| {
         seen.add(&Owed::Refused(number));
         Ok(Owed::Refused(number))
     };
     let Some(sheet) = sheet else {
-        return whole(15);
+        return whole(15, seen);
     };
-    let ruled = Ruled::new(&sheet.template)?;
+    let ruled = Ruled::new(&sheet.template, &mut seen.listed)?;
     if let Some(number) = ruled.refusal() {
-        return whole(number);
+        return whole(number, seen);
     }
     let mut lines = Vec::new();
     for record in &sheet.records {

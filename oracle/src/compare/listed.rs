@@ -9,9 +9,10 @@ pub enum Listed {
     EmptyFile,
     ColourDiff,
     Width,
+    Kelvin,
 }
 
-pub const NAMES: [&str; 3] = ["empty file", "color_diff", "width over 65,535"];
+pub const NAMES: [&str; 4] = ["empty file", "color_diff", "width over 65,535", "Kelvin sign"];
 
 /// Rust's own limit.
 pub const MOST_WIDTH: usize = 65535;
@@ -40,6 +41,7 @@ pub fn without(reasons: &[Listed], record: &Record) -> Record {
             Listed::EmptyFile => record.mask &= !FILE,
             Listed::ColourDiff => undo_diff(&mut record.message),
             Listed::Width => {}
+            Listed::Kelvin => unreachable!("a reason of the template alone"),
         }
     }
     record

@@ -4,6 +4,7 @@
 mod bytes;
 mod crossed;
 mod edges;
+mod letters;
 mod paths;
 mod records;
 mod sheets;
@@ -15,13 +16,13 @@ use crate::sample::cases;
 use crate::sample::random::Rng;
 use crate::sheet::{Record, Sheet};
 
-pub const KINDS: [&str; 7] =
-    ["short templates", "long templates", "records", "sheets", "boundaries", "built-ins", "texts"];
+pub const KINDS: [&str; 8] =
+    ["short templates", "long templates", "records", "sheets", "boundaries", "built-ins", "texts", "letters"];
 
 /// Places in `KINDS`. Short templates are cheap, and so many turns show all of up to five tokens in ten million cases.
 const TURNS: [usize; 64] = [
-    0, 1, 0, 2, 0, 3, 0, 0, 1, 0, 2, 0, 4, 0, 0, 1, 0, 2, 0, 0, 1, 0, 2, 0, 3, 0, 0, 1, 0, 2, 5, 0, //
-    0, 1, 0, 2, 0, 3, 0, 0, 1, 0, 2, 0, 4, 0, 0, 1, 0, 2, 0, 0, 1, 0, 2, 0, 3, 0, 0, 1, 0, 2, 6, 0,
+    0, 1, 0, 2, 0, 3, 0, 0, 1, 0, 2, 0, 4, 0, 0, 7, 0, 2, 0, 0, 1, 0, 7, 0, 3, 0, 0, 1, 0, 2, 5, 0, //
+    0, 1, 0, 2, 0, 3, 0, 0, 1, 0, 2, 0, 4, 0, 0, 7, 0, 2, 0, 0, 1, 0, 7, 0, 3, 0, 0, 1, 0, 2, 6, 0,
 ];
 
 /// Settings bytes with a bit that is not known.
@@ -51,6 +52,16 @@ pub fn byte_case(index: u64) -> (usize, Case) {
     (2, Case::Line { template: bytes::TEMPLATE.into(), record, unknown: 4 })
 }
 
+/// How many cases there are of every character, and each of them.
+pub fn letter_count() -> u64 {
+    letters::count()
+}
+
+pub fn letter_case(index: u64) -> (usize, Case) {
+    let record = letters::record().write();
+    (7, Case::Line { template: letters::nth_template(index).into(), record, unknown: 4 })
+}
+
 pub struct Maker {
     seed: u64,
     boundaries: Vec<Sheet>,
@@ -75,7 +86,8 @@ impl Maker {
             3 => Case::Sheet(sheets::sheet(&mut rng)),
             4 => self.boundary(&mut rng, nth as usize),
             5 => Case::BuiltIn(built_in(&mut rng, nth)),
-            _ => Case::Text(texts::text(&mut rng)),
+            6 => Case::Text(texts::text(&mut rng)),
+            _ => with_letters(&mut rng),
         };
         (kind, case)
     }
@@ -104,6 +116,12 @@ fn line(rng: &mut Rng, template: Vec<u8>, record: Vec<u8>) -> Case {
 
 fn long_template(rng: &mut Rng) -> Case {
     let template = crossed::template(rng);
+    let record = rng.record().write();
+    line(rng, template, record)
+}
+
+fn with_letters(rng: &mut Rng) -> Case {
+    let template = letters::template(rng);
     let record = rng.record().write();
     line(rng, template, record)
 }

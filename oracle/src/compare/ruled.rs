@@ -4,6 +4,7 @@
 use super::calls::Owed;
 use super::listed::{self, Listed};
 use crate::judge::{self, Shown};
+use crate::kelvin;
 use crate::ruling;
 use crate::ruling::line::{without_sequences, Line};
 use crate::sheet::{Record, COLOUR, STRAIGHT};
@@ -12,20 +13,29 @@ use crate::tree::{dump, names, Kind, Segment, Specifier};
 
 pub struct Ruled {
     reading: Result<Vec<Segment>, u8>,
-    /// The crate's reading, wherever the ruling is that the template is read.
-    asked: Option<Template>,
+    judge: Judge,
+}
+
+/// Who judges the lines.
+enum Judge {
+    /// The template gives none.
+    Nobody,
+    /// The crate, by its reading of the template.
+    Crate(Template),
+    /// The crate, by the template with another letter in place of the Kelvin sign.
+    Other(Box<Ruled>),
 }
 
 impl Ruled {
-    /// An error where ruling and crate part.
-    pub fn new(template: &[u8]) -> Result<Ruled, String> {
+    /// An error where ruling and crate part and no reason for it is listed.
+    pub fn new(template: &[u8], listed: &mut Vec<Listed>) -> Result<Ruled, String> {
         let reading = ruling::template(template);
-        let asked = match reading {
+        let judge = match reading {
             // The crate cannot be asked, or knows no such limit.
-            Err(1 | 2 | 5..=8 | 10) => None,
-            _ => judged_reading(std::str::from_utf8(template).expect("not 2"), &reading)?,
+            Err(1 | 2 | 5..=8) => Judge::Nobody,
+            _ => judged_reading(std::str::from_utf8(template).expect("not 2"), &reading, listed)?,
         };
-        Ok(Ruled { reading, asked })
+        Ok(Ruled { reading, judge })
     }
 
     pub fn refusal(&self) -> Option<u8> {
@@ -42,16 +52,20 @@ impl Ruled {
     /// What is owed for a record in the crate's mode and in straight mode. `colour` must be what `set_colour` set last.
     pub fn owed(&self, record: &Record, colour: bool, listed: &mut Vec<Listed>) -> Result<[Owed; 2], String> {
         let both = |number| [Owed::Refused(number), Owed::Refused(number)];
-        let (segments, asked) = match (&self.reading, &self.asked) {
-            (Err(number), _) => return Ok(both(*number)),
-            (Ok(segments), asked) => (segments, asked.as_ref().expect("asked where it is read")),
+        let segments = match &self.reading {
+            Err(number) => return Ok(both(*number)),
+            Ok(segments) => segments,
         };
         if let Some(number) = ruling::record(record) {
             return Ok(both(number));
         }
         let settings = if colour { COLOUR } else { 0 };
         let crates = ruling::line(segments, record, settings);
-        judged_line(asked, segments, record, settings, &crates, listed)?;
+        match &self.judge {
+            Judge::Nobody => unreachable!("the crate was asked where the template is read"),
+            Judge::Crate(read) => judged_line(read, segments, record, settings, &crates, listed)?,
+            Judge::Other(ruled) => drop(ruled.owed(record, colour, listed)?),
+        }
         let straight = ruling::line(segments, record, settings | STRAIGHT);
         judged_straight(segments, record, &crates, &straight)?;
         Ok([crates, straight].map(|line| Owed::Line(line.text.into_bytes())))
@@ -59,7 +73,11 @@ impl Ruled {
 }
 
 /// Where the ruling is 3, 4, 9 or that it is read, the crate must agree, segment by segment.
-fn judged_reading(template: &str, reading: &Result<Vec<Segment>, u8>) -> Result<Option<Template>, String> {
+fn judged_reading(
+    template: &str,
+    reading: &Result<Vec<Segment>, u8>,
+    listed: &mut Vec<Listed>,
+) -> Result<Judge, String> {
     let asked = judge::read(template);
     let agree = match (reading, &asked) {
         (Err(3), Some(Err(Refusal::Failure))) | (Err(9), None) => true,
@@ -73,10 +91,38 @@ fn judged_reading(template: &str, reading: &Result<Vec<Segment>, u8>) -> Result<
         _ => false,
     };
     if agree {
-        return Ok(asked.and_then(Result::ok));
+        return Ok(asked.and_then(Result::ok).map_or(Judge::Nobody, Judge::Crate));
     }
-    let ruled = reading.as_ref().map_or_else(u8::to_string, |segments| dump(segments));
-    Err(format!("reading\n  the crate: {}\n  document 01: {ruled}", judge::segments(template.as_bytes())))
+    let (crates, ruled) = (judge::segments(template.as_bytes()), ruled_dump(template, reading));
+    match judged_by_letters(template, &crates, &ruled) {
+        Some(other) => {
+            listed.push(Listed::Kelvin);
+            Ok(Judge::Other(Box::new(other)))
+        }
+        None => Err(format!("reading\n  the crate: {crates}\n  ruled: {ruled}")),
+    }
+}
+
+/// In the form of `judge::segments`.
+fn ruled_dump(template: &str, reading: &Result<Vec<Segment>, u8>) -> String {
+    match reading {
+        Ok(segments) => dump(segments),
+        Err(4) => format!("4 {}", dump(&ruling::parse(template.as_bytes()).expect("only {s} is missing"))),
+        Err(9) => "panic".to_string(),
+        Err(number) => number.to_string(),
+    }
+}
+
+/// The ruling of the template with another letter in place of the Kelvin sign, where the sign is why crate and ruling
+/// part and nothing else is: the crate reads it for a `K` and the ruling for the other letter, and where either letter
+/// stands they agree.
+fn judged_by_letters(template: &str, crates: &str, ruled: &str) -> Option<Ruled> {
+    let agreed = |letter| Ruled::new(kelvin::with(letter, template).as_bytes(), &mut Vec::new()).ok();
+    let explained = template.contains(kelvin::SIGN)
+        && kelvin::is_read_as(crates, kelvin::LARGE_K, template)
+        && kelvin::is_read_as(ruled, kelvin::OTHER, template)
+        && agreed(kelvin::LARGE_K).is_some();
+    explained.then(|| agreed(kelvin::OTHER)).flatten()
 }
 
 fn names_timestamp(segments: &[Segment]) -> bool {
@@ -102,7 +148,7 @@ fn judged_line(
     let again = judge::shown(asked, &changed);
     let explained = is(&again, &same.text) || again == Shown::Panic && same.widest > listed::MOST_WIDTH;
     if reasons.is_empty() || !explained {
-        return Err(format!("line, settings {settings}\n  the crate: {shown:?}\n  document 01: {:?}", line.text));
+        return Err(format!("line, settings {settings}\n  the crate: {shown:?}\n  ruled: {:?}", line.text));
     }
     listed.extend(reasons);
     Ok(())

@@ -1,5 +1,5 @@
-//! Document 01's reading of a template, limits included. The functions are named as in the crate, which reads in the
-//! same order, so that the two can be laid side by side.
+//! Document 01's reading of a template, limits included, with document 02's letters (E3). The functions are named as in
+//! the crate, which reads in the same order, so that the two can be laid side by side.
 
 use crate::tree::{Alignment, Colour, Format, Kind, Padding, Segment, Specifier, COLOURS, STYLES};
 
@@ -139,15 +139,14 @@ fn take_until_unbalanced(text: &str) -> Result<usize, Miss> {
     Err(Misfit)
 }
 
-/// A whole run of letters, tried as a name.
+/// A whole run of letters of any script, tried as a name.
 fn name(input: &str) -> Fit<'_, &str> {
-    let end = input.bytes().position(|byte| !byte.is_ascii_alphabetic()).unwrap_or(input.len());
+    let end = input.find(|character: char| !character.is_alphabetic()).unwrap_or(input.len());
     let (run, rest) = input.split_at(end);
-    match rest.bytes().next() {
-        _ if run.is_empty() => Err(Misfit),
-        Some(128..) => Err(Refused(10)),
-        _ => Ok((rest, run)),
+    if run.is_empty() {
+        return Err(Misfit);
     }
+    Ok((rest, run))
 }
 
 fn parse_metadata(input: &str) -> Fit<'_, Item> {

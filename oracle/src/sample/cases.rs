@@ -28,13 +28,13 @@ pub fn all(seed: u64) -> Vec<Case> {
     maker.modules();
     maker.sequences();
     maker.characters();
+    maker.letters();
     maker.nested();
     maker.damaged();
     maker.template_limits();
     maker.width_limits();
     maker.file_name_limits();
     maker.backslash_limits();
-    maker.letter_limits();
     maker.segment_limits();
     maker.depth_limits();
     maker.field_limits();
@@ -71,7 +71,7 @@ pub(super) fn saying(message: &str) -> Record {
 }
 
 impl Maker {
-    fn put(&mut self, number: u8, known: bool, family: &'static str, sheet: Sheet) {
+    pub(super) fn put(&mut self, number: u8, known: bool, family: &'static str, sheet: Sheet) {
         if self.seen.insert(sheet.write()) {
             self.cases.push(Case { number, family, known, sheet });
         }

@@ -74,58 +74,6 @@ const BACKSLASH_ELSEWHERE: &[&str] = &[
     "{s}{x\\{t}",
 ];
 
-/// A run of letters, tried as a name, touches a byte of 128 or more.
-const TOUCHING: &[&str] = &[
-    "{aé}",
-    "{s→}",
-    "{sé}{s}",
-    "{s:aé}",
-    "{s:red→}",
-    "{s:bold\u{80}}",
-    "{[{s}]%aé}",
-    "{[{s}]%red→}",
-    "{x{s:aé}}",
-    "{x{s→}}",
-    "{x{s%red→}}",
-    "{xé{s}}",
-    // the Kelvin sign, a k to the crate's colour words
-    "{s:blac\u{212a}}",
-    "{[{s}]%BLAC\u{212a}}",
-    "{L𝄞}{s}",
-    "{s:severityé}",
-    "{bold→:{s}x}",
-    "{zé}",
-    "{Zé{s}}",
-    "{fé}{s}",
-    "{s}{aé}",
-    "{x{é{s:aé}}{s}}",
-    "{s:5:a→}",
-];
-
-/// Such bytes where no name is tried, or not right behind one.
-const APART: &[&str] = &[
-    "{é}",
-    "{éa}",
-    "{s:é}",
-    "{é{s}}",
-    "{x{s:é}}",
-    "{s aé}",
-    "{s}%aé",
-    "{aé",
-    "{s}{aé",
-    "aé{s}",
-    "{[aé{s}]}",
-    "{s%aé}",
-    "{s5é}",
-    "{[{s}]xé%red}",
-    "{s:5é}",
-    "{s:→}",
-    "{[{s}]%→}",
-    "{@é{s}}",
-    "{[é{s}]}",
-    "{`é{s}}",
-];
-
 impl Maker {
     /// 1 and 2: size of the template, then UTF-8.
     pub(super) fn template_limits(&mut self) {
@@ -186,7 +134,6 @@ impl Maker {
             for (before, after) in [("{[{s}]%", "}"), ("{s} ", ""), ("{", "x}{s}"), ("{s ", "}")] {
                 self.alike(family, 0, &format!("{before}{many}{after}"), vec![record.clone()]);
             }
-            self.parted(10, family, format!("{{{many}é}}{{s}}"), record.clone());
         }
     }
 
@@ -197,16 +144,6 @@ impl Maker {
         }
         for template in BACKSLASH_ELSEWHERE {
             self.alike("limit of backslash", 0, template, vec![info()]);
-        }
-    }
-
-    /// 10: letters and bytes of 128 or more.
-    pub(super) fn letter_limits(&mut self) {
-        for template in TOUCHING {
-            self.parted(10, "limit of letters", template, info());
-        }
-        for template in APART {
-            self.alike("limit of letters", 0, template, vec![info()]);
         }
     }
 

@@ -1,6 +1,7 @@
 //! How the port's time grows, and what it is held to: bytes times depth.
 
 use super::gauge;
+use super::texts::cycled;
 use super::timing::{alone, shown};
 use crate::sheet::{Record, COLOUR, STRAIGHT};
 use pralakuon::entries;
@@ -61,11 +62,11 @@ fn reading() {
 }
 
 fn hostile() -> Vec<(&'static str, Vec<u8>)> {
-    let repeated = |piece: &str| piece.repeat(1024).into_bytes()[..1024].to_vec();
     let filled = |before: &str, filling: &str, after: &str| {
         let room = 1024 - before.len() - after.len();
-        [before.as_bytes(), &repeated(filling)[..room], after.as_bytes()].concat()
+        [before, &cycled(filling, room), after].concat().into_bytes()
     };
+    let repeated = |piece: &str| filled("", piece, "");
     vec![
         ("text", repeated("x")),
         ("`{`", repeated("{")),
@@ -75,6 +76,9 @@ fn hostile() -> Vec<(&'static str, Vec<u8>)> {
         ("`{s}`, one brace round text", filled("{", "x", "{s}}")),
         ("`{s}`, eight braces round text", filled(&("{[".repeat(7) + "{s}"), "x", &"}".repeat(7))),
         ("`{s}`, eight braces round `%`", filled(&"{x".repeat(8), "%", &"}".repeat(8))),
+        ("text of `測`", repeated("測")),
+        ("`{s`, `é`, `}`", filled("{s", "é", "}")),
+        ("`{s}`, one brace round `測`", filled("{", "測", "{s}}")),
     ]
 }
 

@@ -1,6 +1,7 @@
 //! The stack that each entry needs: what lies below is painted before a call and looked at after it.
 
 use super::gauge;
+use super::texts::cycled;
 use crate::sheet::{Sheet, COLOUR, STRAIGHT};
 use pralakuon::entries;
 use std::hint::black_box;
@@ -36,17 +37,24 @@ fn print() {
     println!("| `pralakuon_builtin` | {} |", most(&[vec![]], |_| entries::builtin(1, 1, 1, 1, &mut out)));
 }
 
-/// Deep ones, long ones, and both: calls go down with depth and along with members.
+/// Deep ones, long ones, and both: calls go down with depth and along with members. The same with letters beyond ASCII,
+/// which are looked for in a table.
 fn templates() -> Vec<Vec<u8>> {
     let around = |inner: String, depth: usize| (0..depth).fold(inner, |inner, _| format!("{{[{{l}}{inner}%bold%>12}}"));
     let deep = around("{s:>9}".to_string(), 7);
     let broad = format!("{{[{}%red}}", "{s:bold}".repeat(62));
     let both = around(format!("{{{}%red}}", "{s:bold}".repeat(44)), 6);
     let after = "x{l}".repeat(21) + &deep;
-    [deep, broad, both, after, "{s}".repeat(64), "{".repeat(1024), "{ff:bold:red:>12}{s}".to_string()]
-        .into_iter()
-        .map(String::into_bytes)
-        .collect()
+    let plain = [deep, broad, both, after, "{s}".repeat(64), "{".repeat(1024), "{ff:bold:red:>12}{s}".to_string()];
+    let named = "{Température {L}%bold} {s}".to_string();
+    let lettered = [
+        around("{s:é}".to_string(), 6),
+        around("{s:é}".to_string(), 7),
+        cycled(&named, 1024),
+        format!("{{{}{{s}}}}", cycled("測", 1019)),
+        named,
+    ];
+    plain.into_iter().chain(lettered).map(String::into_bytes).collect()
 }
 
 fn sheet(template: &[u8]) -> Vec<u8> {

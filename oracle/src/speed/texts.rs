@@ -213,7 +213,7 @@ fn blank() -> Record {
 }
 
 /// The characters of a piece over and over, as many as there is room for in so many bytes, and `x` for the rest.
-fn cycled(piece: &str, length: usize) -> String {
+pub fn cycled(piece: &str, length: usize) -> String {
     let mut text = String::new();
     for character in piece.chars().cycle() {
         if length < text.len() + character.len_utf8() {

@@ -62,12 +62,12 @@ fn put_at(rng: &mut Rng, mut template: String, places: Vec<usize>, text: &str) -
     template
 }
 
-fn put_before(rng: &mut Rng, template: String, mark: char, text: &str) -> String {
+pub fn put_before(rng: &mut Rng, template: String, mark: char, text: &str) -> String {
     let places = template.match_indices(mark).map(|(at, _)| at).collect();
     put_at(rng, template, places, text)
 }
 
-fn put_behind(rng: &mut Rng, template: String, marks: &[char], text: &str) -> String {
+pub fn put_behind(rng: &mut Rng, template: String, marks: &[char], text: &str) -> String {
     let places = template.match_indices(marks).map(|(at, mark)| at + mark.len()).collect();
     put_at(rng, template, places, text)
 }

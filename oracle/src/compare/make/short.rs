@@ -2,7 +2,7 @@
 
 use crate::sheet::{Record, FILE, HOST, LINE, MODULE};
 
-/// Braces, separators, a name of each kind, digits, a byte of 128 or more, a plain byte.
+/// Braces, separators, a name of each kind, digits, a letter beyond ASCII, a plain byte.
 const TOKENS: [&str; 16] =
     ["{", "}", ":", "%", "\\", "s", "L", "f", "bold", "red", "severity", "0", "7", "<", "é", "["];
 

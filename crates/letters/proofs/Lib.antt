@@ -1,0 +1,9 @@
+pub mod Order
+pub mod Halving
+pub mod Lookup
+pub mod Decoded
+pub mod Marks
+pub mod Doubting
+pub mod Ascii
+pub mod Characters
+pub mod Inside
