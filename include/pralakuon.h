@@ -5,9 +5,9 @@
  * for its whole length, and `out` must overlap nothing else that is lent. What has no length may be null. A length that is
  * too long cannot be noticed here, nor by a sanitizer, which does not see into the archive; valgrind notices it.
  *
- * Each call answers one number: a refusal's number in the low eight bits (0: none), a length in the others. The length
- * is given with what was written and with refusal 13 only. A refusal leaves lent memory as it was found; an accepted
- * call changes only its own bytes at the front of `out`.
+ * Each call answers one number: a refusal's number in the low eight bits (0: none), a value in the others. The value is
+ * a length with what was written and with refusal 13, a place with refusal 17, and 0 with every other refusal. A refusal
+ * leaves lent memory as it was found; an accepted call changes only its own bytes at the front of `out`.
  *
  * What the archive libpralakuon_c.a needs of its surroundings:
  * - memcpy and memset, and nothing else to link; on Apple's arm64 bzero, too, which the system's library has. No other
@@ -47,14 +47,18 @@ enum pralakuon_refusal {
     PRALAKUON_FIELD_NOT_UTF8 = 12,       /* a field not UTF-8 */
     PRALAKUON_LINE_TOO_LONG = 13,        /* longer than the lent buffer; the length is the one needed */
     PRALAKUON_NOT_A_RECORD = 14,         /* source, level, mask or an absent field that is there */
-    PRALAKUON_NOT_A_SHEET = 15           /* not laid out as a sheet or a record is, or an unknown settings bit */
+    PRALAKUON_NOT_A_SHEET = 15,          /* not laid out as a sheet or a record is, or an unknown settings bit */
+    /* 16 is not given yet */
+    PRALAKUON_DROPPED = 17               /* strict only: bytes dropped or a parameter lost; the place is the first's */
 };
 
-/* Settings: bits of one byte. Straight without colour is plain. */
+/* Settings: bits of one byte. Give the same byte to every call that takes one. Straight without colour is plain. Strict
+ * changes no line: it refuses (17) the templates of which bytes would be dropped or a parameter would be lost. */
 enum pralakuon_settings {
     PRALAKUON_PLAIN = 0,
     PRALAKUON_COLOUR = 1,
-    PRALAKUON_STRAIGHT = 2
+    PRALAKUON_STRAIGHT = 2,
+    PRALAKUON_STRICT = 4
 };
 
 /* Whose record it is. */
@@ -108,13 +112,15 @@ enum pralakuon_style {
 
 /* The version of this header. A caller made for MAJOR.MINOR works with every archive of the same MAJOR.MINOR. */
 #define PRALAKUON_VERSION_MAJOR 0
-#define PRALAKUON_VERSION_MINOR 3
+#define PRALAKUON_VERSION_MINOR 4
 #define PRALAKUON_VERSION_PATCH 0
 #define PRALAKUON_VERSION (65536 * PRALAKUON_VERSION_MAJOR + 256 * PRALAKUON_VERSION_MINOR + PRALAKUON_VERSION_PATCH)
 
-/* The refusal in an answer, or 0, and the length in it. */
+/* The refusal in an answer, or 0, and the value in it: a length, or the place with refusal 17, which is the number of
+ * bytes of the template before it. */
 static inline unsigned pralakuon_refusal_of(uint64_t answer) { return (unsigned)(answer & 255u); }
 static inline uint64_t pralakuon_length_of(uint64_t answer) { return answer >> 8; }
+static inline uint64_t pralakuon_place_of(uint64_t answer) { return answer >> 8; }
 
 /* The line of one record. `record` is laid out as in a session sheet: source byte, level byte, mask of what is present,
  * u32 line, u16 lengths of file, module, timestamp, message, then those texts, all numbers little-endian. What is
@@ -123,15 +129,15 @@ uint64_t pralakuon_line(const uint8_t *template_, size_t template_len, uint8_t s
                         size_t record_len, uint8_t *out, size_t out_len);
 
 /* The lines of a session sheet: for each record its line or `! N`, N being its refusal, and a newline. A sheet that is
- * none (15) and one whose template is refused (1 to 9) have no lines, whatever the room: the refusal is answered. Only
- * of an accepted sheet 13 tells the length of all its lines. pralakuon_record.h writes sheets. */
+ * none (15) and one whose template is refused (1 to 9, 17) have no lines, whatever the room: the refusal is answered.
+ * Only of an accepted sheet 13 tells the length of all its lines. pralakuon_record.h writes sheets. */
 uint64_t pralakuon_session(const uint8_t *sheet, size_t sheet_len, uint8_t *out, size_t out_len);
 
-/* 0 for a template that is read, else its refusal. */
-uint64_t pralakuon_check(const uint8_t *template_, size_t template_len);
+/* 0 for a template that is read by these settings, of which only strict counts, else its refusal. */
+uint64_t pralakuon_check(const uint8_t *template_, size_t template_len, uint8_t settings);
 
-/* Whether a template names {t}: length 1 for yes, 0 for no; or its refusal. */
-uint64_t pralakuon_timestamp(const uint8_t *template_, size_t template_len);
+/* Whether a template names {t}: length 1 for yes, 0 for no; or its refusal. Settings as for a check. */
+uint64_t pralakuon_timestamp(const uint8_t *template_, size_t template_len, uint8_t settings);
 
 /* A built-in template: style 0 is the default one, any other the one-line one; location, timestamp and host are no for
  * 0 and yes for any other. */

@@ -97,7 +97,7 @@ enum pralakuon_sheet_answer pralakuon_sheet_begin(struct pralakuon_sheet *sheet,
     /* A sheet that has no room at all, until one is begun. */
     sheet->bytes = out;
     sheet->room = sheet->size = sheet->empty = sheet->records = 0;
-    if (settings & ~(PRALAKUON_COLOUR | PRALAKUON_STRAIGHT))
+    if (settings & ~(PRALAKUON_COLOUR | PRALAKUON_STRAIGHT | PRALAKUON_STRICT))
         return PRALAKUON_SHEET_UNKNOWN_SETTINGS;
     if (!template_.bytes)
         template_.length = 0;
@@ -151,6 +151,8 @@ const char *pralakuon_refusal_text(unsigned refusal)
         "the line is longer than the buffer",
         "the record has an unknown number or contradicts itself",
         "a settings bit is unknown, or a record or sheet is not laid out as one",
+        unknown, /* 16 is not given yet */
+        "the template drops bytes or loses a parameter",
     };
 
     return refusal < sizeof texts / sizeof *texts ? texts[refusal] : unknown;

@@ -1,5 +1,5 @@
-//! Makes samples/: a wall scan as a session sheet in each of the three modes, one of a French crew, and what is printed of
-//! them. host/samples runs it.
+//! Makes samples/: a wall scan as a session sheet in each of the three modes, one of a French crew, one whose template is
+//! refused, and what is printed of them. host/samples runs it.
 
 use pralakuon::{session, HostRecord, Level, Record, Settings, SheetWriter};
 use std::error::Error;
@@ -12,6 +12,9 @@ const TEMPLATE: &str = "{t:>12} {[{L}]%bold%<9}|{gauge {c:>8}: {s:>24}%dimmed%40
 /// As a French crew writes it: a name is a whole run of letters, so `Température` and `relevé` are text.
 const FRENCH: &str = "{t:>12} {Température {L}%bold%<19}|{relevé : {s:>24}%dimmed%33}| {ff:>20}:{l}";
 
+/// As a technician mistyped it: the `%` ends the template, and the time is dropped with all that follows.
+const MISTYPED: &str = "{s} %{t}";
+
 const MODES: [(&str, Settings); 3] =
     [("wall", Settings::PLAIN), ("wall-crate", Settings::CRATE_COLOUR), ("wall-straight", Settings::STRAIGHT_COLOUR)];
 
@@ -19,17 +22,20 @@ fn main() -> Result<(), Box<dyn Error>> {
     let folder = Path::new(env!("CARGO_MANIFEST_DIR")).join("../samples");
     let leave = |name: &str, sheet: Vec<u8>| -> Result<(), Box<dyn Error>> {
         write(folder.join(name).with_extension("sheet"), &sheet)?;
-        write(folder.join(name).with_extension("txt"), session(&sheet)?)?;
+        // Where the whole sheet is refused, that is all that the program prints.
+        let printed = session(&sheet).unwrap_or_else(|refusal| format!("! {}\n", refusal.number()).into());
+        write(folder.join(name).with_extension("txt"), printed)?;
         Ok(())
     };
     for (name, settings) in MODES {
-        leave(name, scan(settings)?)?;
+        leave(name, scan(settings, TEMPLATE)?)?;
     }
+    leave("strict", scan(Settings::PLAIN.with_strict(true), MISTYPED)?)?;
     leave("mur", french_scan()?)
 }
 
 /// The scan: the device's readings, a print, and a word of the tablet itself.
-fn scan(settings: Settings) -> Result<Vec<u8>, Box<dyn Error>> {
+fn scan(settings: Settings, template: &str) -> Result<Vec<u8>, Box<dyn Error>> {
     let gauge = Record::new(Level::Info, "wall B3 crack 0.412 mm")
         .with_file("/head/src/gauge.rs")
         .with_line(118)
@@ -45,7 +51,7 @@ fn scan(settings: Settings) -> Result<Vec<u8>, Box<dyn Error>> {
         .with_line(40)
         .with_module_path("tablet::app");
     let lost = gauge.with_level(Level::Error).with_line(131).with_message("reading lost, été");
-    let mut sheet = SheetWriter::new(settings, TEMPLATE.as_bytes())?;
+    let mut sheet = SheetWriter::new(settings, template.as_bytes())?;
     sheet.push(&gauge)?;
     sheet.push(&gauge.with_timestamp("10.000000").with_message("wall B3 crack 0.415 mm"))?;
     sheet.push(&trolley)?;

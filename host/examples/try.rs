@@ -1,6 +1,6 @@
 //! Shows the line of a record by a template: `host/try` says how it is called.
 
-use pralakuon::{line, Level, RawRecord, Refusal, Settings};
+use pralakuon::{check, line, point_at, Level, RawRecord, Refusal, Settings};
 use std::io::{stdout, ErrorKind, Write};
 use std::process::ExitCode;
 
@@ -12,16 +12,35 @@ const MODES: [(&str, Settings); 3] = [
 
 fn main() -> ExitCode {
     let words: Vec<String> = std::env::args().skip(1).collect();
+    let (strict, words) = match words.split_first() {
+        Some((first, rest)) if first == "--strict" => (true, rest),
+        _ => (false, &words[..]),
+    };
     let shown = match words.split_first() {
-        Some((template, keys)) => record(keys).and_then(|record| show(template, record)).and_then(|text| print(&text)),
+        Some((template, keys)) => record(keys).and_then(|record| show(template, strict, record)),
         None => Err("a template is needed".to_string()),
     };
     match shown {
         Ok(()) => ExitCode::SUCCESS,
         Err(wrong) => {
-            eprintln!("host/try: {wrong}");
+            say(&wrong);
             ExitCode::FAILURE
         }
+    }
+}
+
+/// On the error output, as `./run` does: each line begins alike, so that what stands below another still does.
+fn say(words: &str) {
+    for line in words.lines() {
+        eprintln!("host/try: {line}");
+    }
+}
+
+/// What a refusal says, with the place in the template where it knows one.
+fn told(template: &str, refusal: Refusal) -> String {
+    match refusal {
+        Refusal::Dropped { place } => format!("{refusal}:\n{}", point_at(template.as_bytes(), place)),
+        _ => refusal.to_string(),
     }
 }
 
@@ -50,11 +69,20 @@ fn level(value: &str) -> Result<u8, String> {
     value.parse().or_else(|_| value.parse::<Level>().map(Level::number).map_err(|unknown| unknown.to_string()))
 }
 
-fn show(template: &str, record: RawRecord) -> Result<String, String> {
+fn show(template: &str, strict: bool, record: RawRecord) -> Result<(), String> {
+    print(&lines(template, strict, record)?)?;
+    // Who has never heard of strict templates is the one to be told.
+    if let Err(refusal) = check(template.as_bytes(), Settings::PLAIN.with_strict(true)) {
+        say(&format!("with --strict: {}", told(template, refusal)));
+    }
+    Ok(())
+}
+
+fn lines(template: &str, strict: bool, record: RawRecord) -> Result<String, String> {
     let mut text = String::new();
     let mut longest = 0;
     for (name, settings) in MODES {
-        let made = made(template, settings, record).map_err(|refusal| refusal.to_string())?;
+        let made = made(template, settings.with_strict(strict), record).map_err(|refusal| told(template, refusal))?;
         if settings == Settings::PLAIN {
             longest = made.chars().count();
             text += &format!("{:20}{}\n", "", ruler(longest));

@@ -20,6 +20,7 @@ fn settle(answer: u64) -> Result<usize, Refusal> {
     }
     Err(match Refusal::from_number(number) {
         Some(Refusal::LineTooLong { .. }) => Refusal::LineTooLong { needed: length },
+        Some(Refusal::Dropped { .. }) => Refusal::Dropped { place: entries::place_of(answer) },
         Some(refusal) => refusal,
         None => Refusal::Unknown { number },
     })
@@ -33,11 +34,13 @@ mod tests {
     fn every_answer_is_a_length_or_an_error() {
         assert_eq!(settle(5 << 8), Ok(5));
         assert_eq!(settle(5 << 8 | 13), Err(Refusal::LineTooLong { needed: 5 }));
+        assert_eq!(settle(1_023 << 8 | 17), Err(Refusal::Dropped { place: 1_023 }));
         for number in 1..=255 {
             let refusal = settle(number.into()).unwrap_err();
             assert_eq!(refusal.number(), number);
-            // 10 is no longer given.
-            assert_eq!(matches!(refusal, Refusal::Unknown { .. }), number == 10 || number > 15, "{refusal}");
+            // 10 is no longer given, and 16 not yet.
+            let is_unknown = number == 10 || number == 16 || number > 17;
+            assert_eq!(matches!(refusal, Refusal::Unknown { .. }), is_unknown, "{refusal}");
         }
     }
 }

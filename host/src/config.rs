@@ -79,12 +79,12 @@ pub struct FormatterConfig<'a> {
     pub format: FormatterFormat<'a>,
     /// A built-in template shows the time. A template of one's own says so itself, with `{t}`.
     pub is_timestamp_available: bool,
-    /// Colour.
+    /// Colour, and whether the template is read strictly.
     pub settings: Settings,
 }
 
 impl<'a> FormatterConfig<'a> {
-    /// By this format, without the time and without colour.
+    /// By this format, without the time and without colour; its template is read as the crate reads it.
     #[must_use]
     pub fn new(format: FormatterFormat<'a>) -> Self {
         FormatterConfig { format, ..FormatterConfig::default() }
@@ -122,10 +122,27 @@ impl<'a> FormatterConfig<'a> {
         self
     }
 
-    /// With these settings.
+    /// With these settings. A template that was to be read strictly still is, so that the order of these calls does not
+    /// matter.
     #[must_use]
     pub fn with_settings(mut self, settings: Settings) -> Self {
-        self.settings = settings;
+        self.settings = settings.with_strict(settings.strict || self.settings.strict);
+        self
+    }
+
+    /// With the template read strictly: where bytes of it would be dropped, or a parameter would be lost, it is refused.
+    ///
+    /// ```
+    /// use pralakuon::{Formatter, FormatterConfig, Refusal};
+    ///
+    /// let mistyped = FormatterConfig::custom("{s} %{t}");
+    /// assert!(!Formatter::new(mistyped)?.names_timestamp());
+    /// assert_eq!(Formatter::new(mistyped.with_strict()), Err(Refusal::Dropped { place: 4 }));
+    /// # Ok::<(), Refusal>(())
+    /// ```
+    #[must_use]
+    pub fn with_strict(mut self) -> Self {
+        self.settings.strict = true;
         self
     }
 

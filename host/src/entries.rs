@@ -16,8 +16,8 @@ extern "C" {
         out_len: usize,
     ) -> u64;
     fn pralakuon_session(sheet: *const c_uchar, sheet_len: usize, out: *mut c_uchar, out_len: usize) -> u64;
-    fn pralakuon_check(template: *const c_uchar, template_len: usize) -> u64;
-    fn pralakuon_timestamp(template: *const c_uchar, template_len: usize) -> u64;
+    fn pralakuon_check(template: *const c_uchar, template_len: usize, settings: u8) -> u64;
+    fn pralakuon_timestamp(template: *const c_uchar, template_len: usize, settings: u8) -> u64;
     fn pralakuon_builtin(style: u8, location: u8, timestamp: u8, host: u8, out: *mut c_uchar, out_len: usize) -> u64;
     fn pralakuon_visible(text: *const c_uchar, text_len: usize, out: *mut c_uchar, out_len: usize) -> u64;
     fn pralakuon_version() -> u64;
@@ -50,18 +50,18 @@ pub fn session(sheet: &[u8], out: &mut [u8]) -> u64 {
     unsafe { pralakuon_session(sheet.as_ptr(), sheet.len(), out.as_mut_ptr(), out.len()) }
 }
 
-/// 0 for a template that is read, else its refusal.
+/// 0 for a template that is read by these settings, else its refusal.
 #[must_use]
-pub fn check(template: &[u8]) -> u64 {
+pub fn check(template: &[u8], settings: u8) -> u64 {
     // SAFETY: one slice, which is only read.
-    unsafe { pralakuon_check(template.as_ptr(), template.len()) }
+    unsafe { pralakuon_check(template.as_ptr(), template.len(), settings) }
 }
 
 /// Whether a template names `{t}`, as a length of 1 or 0, or its refusal.
 #[must_use]
-pub fn timestamp(template: &[u8]) -> u64 {
+pub fn timestamp(template: &[u8], settings: u8) -> u64 {
     // SAFETY: one slice, which is only read.
-    unsafe { pralakuon_timestamp(template.as_ptr(), template.len()) }
+    unsafe { pralakuon_timestamp(template.as_ptr(), template.len(), settings) }
 }
 
 /// A built-in template at the front of `out`.
@@ -91,8 +91,14 @@ pub fn refusal_of(answer: u64) -> u8 {
     (answer & 255) as u8
 }
 
-/// The length in an answer.
+/// The length in an answer: of what was written, or of what is needed where the refusal is 13.
 #[must_use]
 pub fn length_of(answer: u64) -> usize {
     (answer >> 8) as usize
+}
+
+/// The place in an answer where the refusal is 17. It has the bits that a length has.
+#[must_use]
+pub fn place_of(answer: u64) -> usize {
+    length_of(answer)
 }

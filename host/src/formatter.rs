@@ -12,7 +12,7 @@ macro_rules! formatter {
             /// A formatter by this configuration. The template is checked here, so only records are refused later.
             ///
             /// # Errors
-            /// Refusals 1 to 9: what is wrong with the template.
+            /// Refusals 1 to 9, and 17 where the settings are strict: what is wrong with the template.
             pub fn new(config: FormatterConfig) -> Result<Self, Refusal> {
                 Lines::new(config, $host).map(|lines| $formatter { lines })
             }
@@ -175,7 +175,7 @@ impl Lines {
     fn new(config: FormatterConfig, host: bool) -> Result<Self, Refusal> {
         let template = config.template(host)?;
         // Asking for the time refuses what a check refuses, so one reading of the template is enough.
-        let names_timestamp = names_timestamp(template.as_bytes())?;
+        let names_timestamp = names_timestamp(template.as_bytes(), config.settings)?;
         Ok(Lines { template, settings: config.settings, names_timestamp })
     }
 

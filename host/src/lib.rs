@@ -42,6 +42,20 @@
 //! # Ok::<(), Refusal>(())
 //! ```
 //!
+//! # Strict templates
+//!
+//! Templates are read as the crate reads them: what it cannot read, it drops without a word, and behind a mistyped `%`
+//! that may be the time. Strict settings refuse such a template and say where, and change nothing else.
+//!
+//! ```
+//! use pralakuon::{point_at, Formatter, FormatterConfig, Refusal};
+//!
+//! let template = "{s} %{t}";
+//! let refused = Formatter::new(FormatterConfig::custom(template).with_strict());
+//! assert_eq!(refused, Err(Refusal::Dropped { place: 4 }));
+//! assert_eq!(point_at(template.as_bytes(), 4), "{s} %{t}\n    ^");
+//! ```
+//!
 //! # Session sheets
 //!
 //! A sheet holds a template and records, so that the same lines can be made of them years later. [`SheetWriter`] writes
@@ -82,6 +96,7 @@ pub mod entries;
 mod formatter;
 mod level;
 mod line;
+mod place;
 mod raw;
 mod record;
 mod refusal;
@@ -98,6 +113,7 @@ pub use config::{FormatterConfig, FormatterFormat};
 pub use formatter::{Formatter, HostFormatter};
 pub use level::{Level, UnknownLevel};
 pub use line::line;
+pub use place::point_at;
 pub use raw::RawRecord;
 pub use record::{HostRecord, Record};
 pub use refusal::Refusal;

@@ -24,7 +24,8 @@ use crate::{entries, RawRecord, Refusal, Settings};
 /// ```
 ///
 /// # Errors
-/// Refusals 1 to 14: what is wrong with the template, the record or the room. A refusal leaves `out` as it was.
+/// Refusals 1 to 14, and 17 where the settings are strict: what is wrong with the template, the record or the room. A
+/// refusal leaves `out` as it was.
 pub fn line<'r>(
     template: &[u8],
     settings: Settings,

@@ -1,4 +1,4 @@
-//! The reasons for which there is no line: fourteen with a number, and two that concern the archive itself.
+//! The reasons for which there is no line: fifteen with a number, and two that concern the archive itself.
 
 use crate::Version;
 use std::error::Error;
@@ -8,9 +8,9 @@ use std::{fmt, io};
 /// versions may have more reasons.
 ///
 /// ```
-/// use pralakuon::{check, Refusal};
+/// use pralakuon::{check, Refusal, Settings};
 ///
-/// let refusal = check(b"{s:513}").unwrap_err();
+/// let refusal = check(b"{s:513}", Settings::PLAIN).unwrap_err();
 /// assert_eq!(refusal, Refusal::TooWide);
 /// assert_eq!(refusal.number(), 7);
 /// assert_eq!(refusal.to_string(), "refusal 7: the template asks for a width above 512");
@@ -49,6 +49,13 @@ pub enum Refusal {
     NotARecord,
     /// 15: a sheet over 65,536 bytes, a sheet or a record that is not laid out as one, or an unknown settings bit.
     NotASheet,
+    /// 17: bytes of the template would be dropped, or a parameter would be lost. Only [strict](crate::Settings::strict)
+    /// settings meet it.
+    Dropped {
+        /// Where the first of them stands: the bytes before it. [`point_at`](crate::point_at) shows it. 0 where only the
+        /// number is known, since nothing is read of a template that is dropped from its first byte on.
+        place: usize,
+    },
     /// The archive refuses by a number that this crate does not know.
     Unknown {
         /// That number.
@@ -62,7 +69,7 @@ pub enum Refusal {
 }
 
 /// The refusals with a number, in the order of their numbers.
-const NUMBERED: [Refusal; 14] = [
+const NUMBERED: [Refusal; 15] = [
     Refusal::TemplateTooLong,
     Refusal::TemplateNotUtf8,
     Refusal::Failure,
@@ -77,18 +84,19 @@ const NUMBERED: [Refusal; 14] = [
     Refusal::LineTooLong { needed: 0 },
     Refusal::NotARecord,
     Refusal::NotASheet,
+    Refusal::Dropped { place: 0 },
 ];
 
 impl Refusal {
-    /// Its number: 1 to 9 or 11 to 15, the archive's own where it is [`Unknown`](Refusal::Unknown), and 0 for
+    /// Its number: 1 to 9, 11 to 15 or 17, the archive's own where it is [`Unknown`](Refusal::Unknown), and 0 for
     /// [`OtherVersion`](Refusal::OtherVersion), which no archive answers.
     #[must_use]
     pub fn number(self) -> u8 {
         self.told().0
     }
 
-    /// The refusal of a number; none but 1 to 9 and 11 to 15 has one. A bare 13 says nothing of the length needed, which
-    /// is 0 then. 10 is no longer given, and no other refusal takes its number.
+    /// The refusal of a number; none but 1 to 9, 11 to 15 and 17 has one. A bare 13 says nothing of the length needed and
+    /// a bare 17 nothing of the place: they are 0 then. 10 is no longer given, and no other refusal takes its number.
     ///
     /// ```
     /// use pralakuon::Refusal;
@@ -119,6 +127,7 @@ impl Refusal {
             Refusal::LineTooLong { .. } => (13, "the line is longer than the buffer"),
             Refusal::NotARecord => (14, "the record has an unknown number or contradicts itself"),
             Refusal::NotASheet => (15, "a settings bit is unknown, or a record or sheet is not laid out as one"),
+            Refusal::Dropped { .. } => (17, "the template drops bytes or loses a parameter"),
             Refusal::Unknown { number } => (number, "the archive has a reason that this crate does not know"),
             Refusal::OtherVersion { .. } => (0, "the archive is of another version"),
         }
@@ -134,6 +143,9 @@ impl fmt::Display for Refusal {
             }
             Refusal::LineTooLong { needed } if *needed > 0 => {
                 write!(out, "refusal {number}: {reason}, {needed} bytes are needed")
+            }
+            Refusal::Dropped { place } if *place > 0 => {
+                write!(out, "refusal {number}: {reason}, first at byte {place}")
             }
             _ => write!(out, "refusal {number}: {reason}"),
         }

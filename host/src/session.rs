@@ -22,7 +22,7 @@ const ROOM_FOR_ALL: usize = 65_536;
 /// ```
 ///
 /// # Errors
-/// [`NotASheet`](Refusal::NotASheet), or refusals 1 to 9 where the template is refused: then there are no lines.
+/// [`NotASheet`](Refusal::NotASheet), or refusals 1 to 9 or 17 where the template is refused: then there are no lines.
 pub fn session(sheet: &[u8]) -> Result<Vec<u8>, Refusal> {
     with_room(ROOM_FOR_ALL, |out| session_into(sheet, out))
 }

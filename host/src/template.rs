@@ -2,38 +2,43 @@
 
 use crate::answer::asked;
 use crate::room::with_room;
-use crate::{entries, Refusal};
+use crate::{entries, Refusal, Settings};
 
-/// Whether a template is read; if not, why.
+/// Whether a template is read by these settings; if not, why. Of the settings only [`strict`](Settings::strict) counts.
 ///
 /// ```
-/// use pralakuon::{check, Refusal};
+/// use pralakuon::{check, Refusal, Settings};
 ///
-/// assert_eq!(check(b"[{L}] {s}"), Ok(()));
-/// assert_eq!(check(b"{s:bold:bold}"), Err(Refusal::Failure));
-/// assert_eq!(check(b"{s}\xff"), Err(Refusal::TemplateNotUtf8));
+/// assert_eq!(check(b"[{L}] {s}", Settings::PLAIN), Ok(()));
+/// assert_eq!(check(b"{s:bold:bold}", Settings::PLAIN), Err(Refusal::Failure));
+/// assert_eq!(check(b"{s}\xff", Settings::PLAIN), Err(Refusal::TemplateNotUtf8));
+///
+/// // What is dropped without a word, and what is not.
+/// let strict = Settings::PLAIN.with_strict(true);
+/// assert_eq!(check(b"{s junk}", Settings::PLAIN), Ok(()));
+/// assert_eq!(check(b"{s junk}", strict), Err(Refusal::Dropped { place: 2 }));
 /// ```
 ///
 /// # Errors
-/// Refusals 1 to 9.
-pub fn check(template: &[u8]) -> Result<(), Refusal> {
-    asked(|| entries::check(template)).map(|_| ())
+/// Refusals 1 to 9, and 17 where the settings are strict.
+pub fn check(template: &[u8], settings: Settings) -> Result<(), Refusal> {
+    asked(|| entries::check(template, settings.byte())).map(|_| ())
 }
 
 /// Whether a template names the time, `{t}`, at any depth.
 ///
 /// ```
-/// use pralakuon::{names_timestamp, Refusal};
+/// use pralakuon::{names_timestamp, Refusal, Settings};
 ///
-/// assert_eq!(names_timestamp(b"{t} {s}"), Ok(true));
-/// assert_eq!(names_timestamp(b"t {s}"), Ok(false));
-/// assert_eq!(names_timestamp(b"{t}"), Err(Refusal::NoMessage));
+/// assert_eq!(names_timestamp(b"{t} {s}", Settings::PLAIN), Ok(true));
+/// assert_eq!(names_timestamp(b"t {s}", Settings::PLAIN), Ok(false));
+/// assert_eq!(names_timestamp(b"{t}", Settings::PLAIN), Err(Refusal::NoMessage));
 /// ```
 ///
 /// # Errors
-/// Refusals 1 to 9, as [`check`].
-pub fn names_timestamp(template: &[u8]) -> Result<bool, Refusal> {
-    asked(|| entries::timestamp(template)).map(|length| length != 0)
+/// Refusals 1 to 9, and 17 where the settings are strict, as [`check`].
+pub fn names_timestamp(template: &[u8], settings: Settings) -> Result<bool, Refusal> {
+    asked(|| entries::timestamp(template, settings.byte())).map(|length| length != 0)
 }
 
 /// The two families of built-in templates, by the numbers of the entry.

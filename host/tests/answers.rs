@@ -1,4 +1,5 @@
-//! The stored answers of the crate itself (crates/replay/stdin), through the archive as it is linked here.
+//! The stored answers of the crate itself (crates/replay/stdin), through the archive as it is linked here; and the same
+//! sheets in both editions of the template rules.
 
 mod common;
 
@@ -60,7 +61,7 @@ fn a_session_prints_what_the_crate_prints() {
 
 /// What a session call answers, put together from its lines.
 fn one_by_one(sheet: &Sheet) -> Result<Vec<u8>, Refusal> {
-    check(sheet.template).map(|()| sheet.lines().flat_map(printed_alone).collect())
+    check(sheet.template, sheet.settings).map(|()| sheet.lines().flat_map(printed_alone).collect())
 }
 
 #[test]
@@ -79,4 +80,33 @@ fn every_sheet_is_written_as_it_was_read() -> Result<(), Box<dyn Error>> {
         assert!(writer.finish() == sheet);
     }
     Ok(())
+}
+
+/// What a session call answers to the same sheet in the other edition.
+fn in_edition(sheet: &Sheet, strict: bool) -> Result<Vec<u8>, Refusal> {
+    let mut writer = SheetWriter::new(sheet.settings.with_strict(strict), sheet.template).unwrap();
+    sheet.records.iter().for_each(|record| writer.push(record).unwrap());
+    session(&writer.finish())
+}
+
+/// The strict edition answers what the first answers, or that a template which the first reads is not used up.
+#[test]
+fn the_strict_edition_changes_no_line() {
+    let (mut read, mut dropped) = (0, 0);
+    for Case { sheet, .. } in cases() {
+        let sheet = Sheet::read(sheet).unwrap();
+        let (first, strict) = (in_edition(&sheet, false), in_edition(&sheet, true));
+        match strict {
+            Err(Refusal::Dropped { place }) => {
+                assert!(first.is_ok() && place > 0 && place < sheet.template.len(), "{place}");
+                assert_eq!(check(sheet.template, sheet.settings.with_strict(true)), Err(Refusal::Dropped { place }));
+                dropped += 1;
+            }
+            _ => {
+                assert!(strict == first, "{:?}", String::from_utf8_lossy(sheet.template));
+                read += usize::from(first.is_ok());
+            }
+        }
+    }
+    assert!(read > 1_000 && dropped > 100, "only {read} were read and {dropped} refused with 17");
 }

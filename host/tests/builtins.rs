@@ -1,7 +1,8 @@
 //! The eight built-in templates, for the device and for the host.
 
 use pralakuon::{
-    check, Formatter, FormatterConfig, FormatterFormat, HostFormatter, HostRecord, Level, Record, Refusal, Settings,
+    check, names_timestamp, Formatter, FormatterConfig, FormatterFormat, HostFormatter, HostRecord, Level, Record,
+    Refusal, Settings,
 };
 
 fn device_record() -> Record<'static> {
@@ -61,9 +62,16 @@ fn shows(config: FormatterConfig, device_line: &str, host_line: &str) {
     assert_eq!(host.format(&host_record()).as_deref(), Ok(host_line));
     for (template, names) in [(device.template(), device.names_timestamp()), (host.template(), host.names_timestamp())]
     {
-        assert_eq!(check(template.as_bytes()), Ok(()));
+        // Nothing of a built-in template is dropped, so that the strict edition reads it, too.
+        for settings in [Settings::PLAIN, Settings::PLAIN.with_strict(true)] {
+            assert_eq!(check(template.as_bytes(), settings), Ok(()));
+            assert_eq!(names_timestamp(template.as_bytes(), settings), Ok(config.is_timestamp_available));
+        }
         assert_eq!(names, config.is_timestamp_available);
     }
+    let strict = config.with_strict();
+    assert_eq!(Formatter::new(strict).unwrap().format(&device_record()).as_deref(), Ok(device_line));
+    assert_eq!(HostFormatter::new(strict).unwrap().format(&host_record()).as_deref(), Ok(host_line));
 }
 
 #[test]

@@ -167,7 +167,7 @@ fn sheet_of_edges() -> Vec<u8> {
 fn the_pair_writes_what_the_crate_writes() {
     let program = in_c("pair");
     let sample = |name: &str| fs::read(host("../samples").join(name)).unwrap();
-    let samples = ["wall.sheet", "wall-crate.sheet", "wall-straight.sheet", "mur.sheet"].map(sample);
+    let samples = ["wall.sheet", "wall-crate.sheet", "wall-straight.sheet", "mur.sheet", "strict.sheet"].map(sample);
     for sheet in samples.into_iter().chain([sheet_of_edges()]) {
         assert!(run_with(Command::new(&program).arg("copy"), &sheet) == sheet);
     }
@@ -177,12 +177,12 @@ fn the_pair_writes_what_the_crate_writes() {
 fn the_pair_says_what_the_crate_says() {
     let said = run(Command::new(in_c("pair")).arg("texts"));
     let text = |refusal: Refusal| refusal.to_string().split_once(": ").unwrap().1.to_string();
-    // 10 is no longer given.
-    let refusals = (1..=15).map(|number| Refusal::from_number(number).map_or("an unknown refusal".into(), text));
+    // 10 is no longer given, and 16 not yet.
+    let refusals = (1..=17).map(|number| Refusal::from_number(number).map_or("an unknown refusal".into(), text));
     let levels = Level::ALL.map(|level| level.to_string());
     let expected: Vec<_> = ["no refusal".to_string()].into_iter().chain(refusals).collect();
-    assert_eq!(said.lines().take(16).collect::<Vec<_>>(), expected);
-    assert_eq!(said.lines().skip(16).collect::<Vec<_>>(), [&["no level".to_string()], &levels[..]].concat());
+    assert_eq!(said.lines().take(18).collect::<Vec<_>>(), expected);
+    assert_eq!(said.lines().skip(18).collect::<Vec<_>>(), [&["no level".to_string()], &levels[..]].concat());
 }
 
 fn install(folder: &str, prefix: &str, destdir: &Path) -> PathBuf {

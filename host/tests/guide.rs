@@ -1,6 +1,6 @@
-//! The examples of docs/GUIDE.md: each is run, and prints what the guide says.
+//! The examples of docs/GUIDE.md: each is run, and prints what the guide says; its code is code that is run.
 
-use pralakuon::entries;
+use pralakuon::{entries, point_at, Formatter, FormatterConfig, Refusal};
 
 const GUIDE: &str = include_str!("../../docs/GUIDE.md");
 
@@ -68,12 +68,13 @@ fn laid_out(told: &Told) -> Vec<u8> {
     bytes
 }
 
-/// What the archive answers: the line, or `! N`.
+/// What the archive answers: the line, or `! N`; with 17 the place, too.
 fn answered(told: &Told, template: &[u8]) -> Vec<u8> {
     let mut out = vec![0; 10_000];
     let answer = entries::line(template, told.settings, &laid_out(told), &mut out);
     match entries::refusal_of(answer) {
         0 => out[..entries::length_of(answer)].to_vec(),
+        17 => format!("! 17 at {}", entries::place_of(answer)).into_bytes(),
         number => format!("! {number}").into_bytes(),
     }
 }
@@ -107,4 +108,34 @@ fn every_example_prints_what_the_guide_says() {
     }
     assert!(wrong.is_empty(), "{}", wrong.join("\n"));
     assert!(count > 50, "only {count} examples were found");
+}
+
+/// The lines of the guide's code in a language, without the space before them.
+fn quoted(language: &str) -> Vec<&'static str> {
+    let begin = format!("```{language}\n");
+    let blocks = GUIDE.split(&begin).skip(1).map(|rest| rest.split("```").next().unwrap_or_default());
+    blocks.flat_map(str::lines).map(str::trim_start).collect()
+}
+
+/// The guide's Rust stands here, too.
+#[test]
+fn the_guides_rust_is_run() {
+    for template in ["{s} {t}", "{s} %{t}"] {
+        let config = FormatterConfig::custom(template).with_strict();
+        if let Err(refusal @ Refusal::Dropped { place }) = Formatter::new(config) {
+            eprintln!("{refusal}:\n{}", point_at(template.as_bytes(), place));
+        }
+        assert_eq!(Formatter::new(config).is_err(), template.contains('%'));
+    }
+    assert!(quoted("rust").len() > 3 && quoted("rust").iter().all(|line| include_str!("guide.rs").contains(line)));
+}
+
+/// The guide's C is of the tour, which tests/c.rs compiles and runs.
+#[test]
+fn the_guides_c_is_of_the_tour() {
+    let tour: Vec<&str> = include_str!("c/tour.c").lines().map(str::trim_start).collect();
+    for line in quoted("c") {
+        assert!(tour.contains(&line) || line == "}", "the tour has no line {line}");
+    }
+    assert!(quoted("c").len() > 4);
 }

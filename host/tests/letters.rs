@@ -1,7 +1,7 @@
 //! Letters, of which names are made, are those of Rust's `char::is_alphabetic`: the table of the proved crate `letters` is
 //! held against Rust's own, and the archive is asked about every character of Unicode.
 
-use pralakuon::{check, Refusal};
+use pralakuon::{check, Refusal, Settings};
 use std::io::{self, Write};
 
 /// The ranges of letters that the meaning speaks of, and the table that the code looks in.
@@ -87,7 +87,7 @@ fn a_name_goes_on_through_every_letter_and_ends_before_all_else() {
         let is_letter = ends.partition_point(|&end| end <= character.into()) % 2 == 1;
         for name in ["{s", "{s:bold"] {
             let template = format!("{name}{character}}}");
-            let answer = check(template.as_bytes());
+            let answer = check(template.as_bytes(), Settings::PLAIN);
             assert_eq!(answer, due(character, is_letter), "{name}{}}}", character.escape_unicode());
         }
         letters += usize::from(is_letter);

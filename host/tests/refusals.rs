@@ -24,8 +24,8 @@ fn config(template: &str) -> FormatterConfig<'_> {
 fn refused(number: u8, template: impl AsRef<[u8]>) {
     let template = template.as_ref();
     let refusal = Refusal::from_number(number).unwrap();
-    assert_eq!(check(template), Err(refusal), "{template:?}");
-    assert_eq!(names_timestamp(template), Err(refusal));
+    assert_eq!(check(template, Settings::PLAIN), Err(refusal), "{template:?}");
+    assert_eq!(names_timestamp(template, Settings::PLAIN), Err(refusal));
     assert_eq!(line_of(template, Settings::PLAIN, hello()), Err(refusal));
     assert_eq!(session(&sheet_with(template)), Err(refusal));
     if let Ok(template) = std::str::from_utf8(template) {
@@ -36,7 +36,7 @@ fn refused(number: u8, template: impl AsRef<[u8]>) {
 
 /// Every way to give a template reads it, and this is the line of `hello`.
 fn read(template: &str, line: &str) {
-    assert_eq!(check(template.as_bytes()), Ok(()), "{template:?}");
+    assert_eq!(check(template.as_bytes(), Settings::PLAIN), Ok(()), "{template:?}");
     assert_eq!(line_of(template.as_bytes(), Settings::PLAIN, hello()), Ok(line.into()));
     assert_eq!(session(&sheet_with(template.as_bytes())), Ok(format!("{line}\n{line}\n").into_bytes()));
     let record = Record::new(Level::Info, "hello");
@@ -330,7 +330,7 @@ fn r15_bodies_run_out_of_room_before_they_run_out_of_numbers() {
 #[test]
 fn numbers_and_names_are_those_of_the_header() {
     let header = include_str!("../../include/pralakuon.h");
-    for number in (1..=15).filter(|&number| number != 10) {
+    for number in (1..=17).filter(|number| ![10, 16].contains(number)) {
         let refusal = Refusal::from_number(number).unwrap();
         assert_eq!(refusal.number(), number);
         assert!(refusal.to_string().starts_with(&format!("refusal {number}: ")), "{refusal}");
@@ -340,10 +340,11 @@ fn numbers_and_names_are_those_of_the_header() {
         let in_header = line.split_whitespace().next().unwrap().trim_start_matches("PRALAKUON_").replace('_', "");
         assert_eq!(name.to_uppercase(), in_header);
     }
-    for number in (16..=255).chain([0, 10]) {
+    for number in (18..=255).chain([0, 10, 16]) {
         assert_eq!(Refusal::from_number(number), None);
     }
     assert!(header.contains("/* 10 is no longer given") && !header.contains(" = 10"));
+    assert!(header.contains("/* 16 is not given yet") && !header.contains(" = 16"));
 }
 
 #[test]
@@ -354,6 +355,16 @@ fn the_length_needed_is_told() {
     );
     let unknown = Refusal::from_number(13).unwrap();
     assert_eq!(unknown.to_string(), "refusal 13: the line is longer than the buffer");
+}
+
+#[test]
+fn the_place_is_told() {
+    assert_eq!(
+        Refusal::Dropped { place: 4 }.to_string(),
+        "refusal 17: the template drops bytes or loses a parameter, first at byte 4"
+    );
+    let unknown = Refusal::from_number(17).unwrap();
+    assert_eq!(unknown.to_string(), "refusal 17: the template drops bytes or loses a parameter");
 }
 
 #[test]

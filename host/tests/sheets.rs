@@ -2,7 +2,7 @@
 
 mod common;
 
-use common::{archive_refuses, hand_laid, hello, printed_alone, sheet_of, PAINT};
+use common::{archive_refuses, hand_laid, hello, printed, printed_alone, sheet_of, PAINT};
 use pralakuon::{session, session_into, HostRecord, Level, RawRecord, Record, Refusal, Settings, Sheet, SheetWriter};
 use std::fs;
 use std::path::Path;
@@ -15,6 +15,7 @@ const EXAMPLE: &[u8] = b"\x04\0\
     \0\0\0\0\0\0\0\0\0\0\0\0\0\x04\0boot\
     \x01\0\0\0\0\0\0\0\0\0\0\0\0\0\0";
 
+/// Those that have lines.
 const SAMPLES: [&str; 4] = ["wall", "wall-crate", "wall-straight", "mur"];
 
 fn sample(name: &str) -> Vec<u8> {
@@ -98,6 +99,17 @@ fn samples_print_what_they_should() {
 }
 
 #[test]
+fn the_sample_of_a_refused_template_prints_its_number() {
+    let bytes = sample("strict.sheet");
+    assert_eq!(printed(&bytes), sample("strict.txt"));
+    assert_eq!(session(&bytes), Err(Refusal::Dropped { place: 4 }));
+    assert!(!judged_alike(&bytes));
+    let sheet = Sheet::read(&bytes).unwrap();
+    assert_eq!((sheet.settings, sheet.template), (Settings::PLAIN.with_strict(true), &b"{s} %{t}"[..]));
+    assert!(sheet.lines().all(|line| line == Err(Refusal::Dropped { place: 4 })) && !sheet.records.is_empty());
+}
+
+#[test]
 fn the_lines_of_samples_one_by_one() {
     for name in SAMPLES {
         let bytes = sample(&format!("{name}.sheet"));
@@ -162,6 +174,7 @@ fn a_refused_sheet_writes_nothing_whatever_the_room() {
     refused(b"", Refusal::NotASheet);
     refused(&sheet_of(&[b"\0{t}"]), Refusal::NoMessage);
     refused(&sheet_of(&[b"\0{t}", &hand_laid(b"hello")]), Refusal::NoMessage);
+    refused(&sheet_of(&[b"\x04{s}%", &hand_laid(b"hello")]), Refusal::Dropped { place: 3 });
 }
 
 #[test]
@@ -215,8 +228,8 @@ fn every_change_of_a_byte_is_judged_alike() {
             refused += usize::from(no_sheet);
         }
     }
-    // The contents, the settings' six unknown bits, the lengths of three records' texts.
-    assert_eq!(refused, contents * 255 + 252 + 3 * 8 * 255);
+    // The contents, the settings' five unknown bits, the lengths of three records' texts.
+    assert_eq!(refused, contents * 255 + 248 + 3 * 8 * 255);
 }
 
 #[test]
@@ -231,7 +244,7 @@ fn odd_sheets_are_judged_alike() {
         vec![1, 0],
         sheet_of(&[]),
         sheet_of(&[b""]),
-        sheet_of(&[b"\x04{s}"]),
+        sheet_of(&[b"\x08{s}"]),
         sheet_of(&[b"\x80{s}"]),
         sheet_of(&[b"\0{s}", b""]),
         sheet_of(&[b"\0{s}", &record[..14]]),
@@ -247,7 +260,7 @@ fn odd_sheets_are_judged_alike() {
     for bytes in no_sheets {
         assert!(judged_alike(&bytes), "{bytes:?}");
     }
-    let sheets = [sheet_of(&[b"\0"]), sheet_of(&[b"\x03"]), sheet_of(&[b"\0{s}"]), sheet_of(&[b"\x02{s}", &record])];
+    let sheets = [sheet_of(&[b"\0"]), sheet_of(&[b"\x07"]), sheet_of(&[b"\x04{s}"]), sheet_of(&[b"\x02{s}", &record])];
     for bytes in sheets {
         assert!(!judged_alike(&bytes), "{bytes:?}");
     }

@@ -47,6 +47,11 @@ pub fn run_letters() -> bool {
     run_over(make::letter_count(), make::letter_case)
 }
 
+/// The same over templates that leave something unused or nearly do.
+pub fn run_strict() -> bool {
+    run_over(make::strict_count(), make::strict_case)
+}
+
 fn run_over(count: u64, case: impl Fn(u64) -> (usize, Case) + Sync) -> bool {
     let mut found = Found::default();
     for batch in in_steps(0..count, BATCH) {

@@ -1,8 +1,11 @@
-//! Document 01's examples, and letters as document 02 decides them (E3), held against the crate. Expected values are typed
-//! from the documents; where the port parts from the crate, the crate's own answer stands here and says so.
+//! Document 01's examples, and letters and strict templates as document 02 decides them (E3, E5), held against the crate.
+//! Expected values are typed from the documents; where the port parts from the crate, the crate's own answer stands here and
+//! says so.
 
 use crate::judge::{self, Answer, Shown};
+use crate::ruling;
 use crate::sheet::{Record, Sheet, COLOUR, DEVICE, FILE, HOST, LINE, MODULE};
+use crate::strict;
 use crate::stub::format::{self, Template};
 
 /// Templates read with INFO, message `hello`, no other field, colour off.
@@ -71,6 +74,8 @@ pub(crate) const PLAIN: &[(&str, &str)] = &[
 /// Templates refused by the port with the crate's own outcome.
 pub(crate) const REFUSED: &[(&str, u8)] = &[
     ("{s:bold:bold}", 3),
+    ("{s:}", 3),
+    ("{t}%{s}", 4),
     ("{t}", 4),
     ("", 4),
     ("{}", 3),
@@ -159,6 +164,48 @@ pub(crate) const KELVIN: &[(&str, Instead)] = &[
     ("{x{s:blac\u{212a}}}", Instead::Line("x\x1b[30mhello\x1b[0m")),
     // here the word is a text of a group
     ("{blac\u{212a} {s}}", Instead::Refused(3)),
+];
+
+/// Templates that are read: the line, as in `PLAIN`, and where the strict edition refuses the template with 17.
+pub(crate) const STRICT: &[(&str, &str, Option<usize>)] = &[
+    // the technician's
+    ("{s} %{t}", "hello ", Some(4)),
+    // the rest of the top level
+    ("{s}%x", "hello", Some(3)),
+    ("{s}%", "hello", Some(3)),
+    ("{s}{t", "hello", Some(3)),
+    // the rest of a content
+    ("{s junk}", "hello", Some(2)),
+    ("{s }", "hello", Some(2)),
+    ("{s%bold}", "hello", Some(2)),
+    ("{L07}{s}", "INFO hello", Some(2)),
+    ("{x{L:}}{s}", "xINFO hello", Some(4)),
+    ("{x{L:red junk}}{s}", "xINFO hello", Some(8)),
+    ("{a{s}\\{b%red}c", "ahello\\c", Some(6)),
+    // lost parameters, by the place of the word, sign or digit
+    ("{bold:[{L}]}{s}", "[INFO ]hello", Some(1)),
+    ("{<5:[{L}]}{s}", "[INFO ]hello", Some(1)),
+    ("{red:bold:[{L}]}{s}", "[INFO ]hello", Some(1)),
+    ("{[{L%bold}]}{s}", "[INFO ]hello", Some(5)),
+    ("{x{L%5}}{s}", "xINFO hello", Some(5)),
+    ("{x{5%L}}{s}", "xINFO hello", Some(3)),
+    ("{x{L:9%red}|}{s}", "xINFO     |hello", Some(7)),
+    // the first of several
+    ("{[{L x}]}{bold:[{t}]}{s}", "[INFO ][<time>]hello", Some(4)),
+    ("{bold:[{L x}]}{s}%", "[INFO ]hello", Some(1)),
+    ("{a{s}{b{t%red}%bold}}", "ahellob<time>", Some(9)),
+    // places count bytes
+    ("é{s}%", "éhello", Some(5)),
+    ("{測{s é}}", "測hello", Some(6)),
+    // every byte is used, and every parameter in force
+    ("{s}", "hello", None),
+    ("{s}}", "hello}", None),
+    ("a}b\\c{s}", "a}b\\chello", None),
+    ("{[{L}]%bold}{s}", "[INFO ]hello", None),
+    ("{[{L}]%bold:<12} {s}", "[INFO ]:<12 hello", None),
+    ("{x{L:bold:bold{t}}{L}}{s}", "xL:bold:bold<time>INFO hello", None),
+    ("{L:severity:0}{s:werror}", "INFOhello", None),
+    ("{%bold[{L:0}{%007{s}}]%PURPLE%<16}|", "[INFOhello00]   |", None),
 ];
 
 #[derive(Clone, Copy)]
@@ -274,6 +321,7 @@ struct Checks {
 pub fn run() -> bool {
     let mut checks = Checks { checked: 0, parted: 0 };
     checks.tables();
+    checks.strict();
     checks.sheet();
     checks.hosts();
     checks.limits();
@@ -296,11 +344,11 @@ fn line(text: &str) -> Answer {
 }
 
 impl Checks {
-    fn same<T: PartialEq + std::fmt::Debug>(&mut self, what: &str, expected: T, crates: T) {
+    fn same<T: PartialEq + std::fmt::Debug>(&mut self, what: &str, expected: T, found: T) {
         self.checked += 1;
-        if expected != crates {
+        if expected != found {
             self.parted += 1;
-            println!("{what:?}\n  expected {expected:?}\n  crate    {crates:?}");
+            println!("{what:?}\n  expected {expected:?}\n  found    {found:?}");
         }
     }
 
@@ -341,6 +389,16 @@ impl Checks {
         self.ask(0, "{[{L}]%bold%<9}|{s}", &Record { level: 1, ..info() }, line(plain));
     }
 
+    /// The crate's line, the ruled place, and that the crate bears out what is ruled to be unused.
+    fn strict(&mut self) {
+        for (template, expected, place) in STRICT {
+            self.ask(0, template, &info(), line(expected));
+            let reading = ruling::template(template.as_bytes()).expect("read in the first edition");
+            self.same(template, *place, reading.unused.place());
+            self.same(template, Ok(()), strict::judged(template, &reading));
+        }
+    }
+
     /// The sheet example, through its bytes.
     fn sheet(&mut self) {
         let records = vec![
@@ -356,7 +414,7 @@ impl Checks {
         self.same("the sheet example", b"[ERROR] hello\nboot\n! 14\n".to_vec(), printed);
         let short = Sheet::read(&[1, 0, 0, 0, 0, 0]);
         self.same("a body 0 without a byte", Answer::Refused(15), judge::answer(short.as_ref()));
-        let unknown = Sheet { settings: 4, ..Sheet::default() }.write();
+        let unknown = Sheet { settings: 8, ..Sheet::default() }.write();
         let unknown = Sheet::read(&unknown);
         self.same("an unknown settings bit", Answer::Refused(15), judge::answer(unknown.as_ref()));
     }

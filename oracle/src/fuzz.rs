@@ -34,7 +34,7 @@ fn cases(input: Input) -> Vec<Case> {
         Input::Loose(sheet) => {
             let record = &sheet.records[0];
             vec![
-                Case::Line { template: sheet.template.clone(), record: record.write(), unknown: sheet.settings | 4 },
+                Case::Line { template: sheet.template.clone(), record: record.write(), unknown: sheet.settings | 8 },
                 Case::Sheet(sheet.write()),
                 Case::BuiltIn([sheet.settings, record.source, record.level, record.mask]),
                 Case::Text(record.message.clone()),

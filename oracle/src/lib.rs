@@ -11,13 +11,14 @@ mod kelvin;
 pub mod meaning;
 #[cfg(all(test, feature = "port"))]
 mod migration;
-#[cfg(feature = "port")]
-mod ruling;
+pub mod ruling;
 pub mod sample;
 pub mod sheet;
 #[cfg(feature = "port")]
 pub mod speed;
+mod spelling;
 pub mod stream;
+mod strict;
 pub mod stub;
 pub mod tree;
 

@@ -1,6 +1,6 @@
 //! `pralakuon-oracle MODE`: README.md says what each mode reads and writes.
 
-use pralakuon_oracle::sheet::{Record, Sheet, COLOUR, FILE, LINE, MODULE, STRAIGHT};
+use pralakuon_oracle::sheet::{Record, Sheet, COLOUR, FILE, LINE, MODULE, STRAIGHT, STRICT};
 use pralakuon_oracle::{examples, inputs, judge, meaning, sample, stream, VERSIONS};
 use std::io::{self, Read, Write};
 use std::process::ExitCode;
@@ -9,9 +9,9 @@ const USAGE: &str = "usage: pralakuon-oracle lines | segments | text | examples 
        pralakuon-oracle sample FILE [SEED]
        pralakuon-oracle meaning LIST CRATES FOLDER STEP
        pralakuon-oracle seeds LIST FOLDER
-       pralakuon-oracle compare N [SEED] | compare paths | compare bytes | compare letters   (built by oracle/compare)
+       pralakuon-oracle compare N [SEED] | compare paths | bytes | letters | strict   (built by oracle/compare)
        pralakuon-oracle speed              (built by oracle/speed)
-       pralakuon-oracle sheet [--colour] [--straight] --template TEXT [--record KEY=VALUE,..]..
+       pralakuon-oracle sheet [--colour] [--straight] [--strict] --template TEXT [--record KEY=VALUE,..]..
        keys of a record: source level file line module timestamp message (the rest, commas too)";
 
 fn main() -> ExitCode {
@@ -62,12 +62,13 @@ fn usage() -> ExitCode {
 
 #[cfg(feature = "port")]
 fn compare(words: &[&str]) -> ExitCode {
-    use pralakuon_oracle::compare::{run, run_bytes, run_letters, run_paths, SEED};
+    use pralakuon_oracle::compare::{run, run_bytes, run_letters, run_paths, run_strict, SEED};
     let numbers: Option<Vec<u64>> = words.iter().map(|word| word.parse().ok()).collect();
     let alike = match (words, numbers.as_deref()) {
         (["paths"], _) => run_paths(),
         (["bytes"], _) => run_bytes(),
         (["letters"], _) => run_letters(),
+        (["strict"], _) => run_strict(),
         (_, Some([count])) => run(*count, SEED),
         (_, Some([count, seed])) => run(*count, *seed),
         _ => return usage(),
@@ -94,6 +95,10 @@ fn sheet(mut options: &[&str]) -> Option<Sheet> {
             }
             ["--straight", rest @ ..] => {
                 sheet.settings |= STRAIGHT;
+                rest
+            }
+            ["--strict", rest @ ..] => {
+                sheet.settings |= STRICT;
                 rest
             }
             ["--template", text, rest @ ..] => {

@@ -1,6 +1,7 @@
 //! Writes a crate of definitions that has the checker compute the meaning on cases of the stored list.
 
 use crate::sample::{self, Stored};
+use crate::sheet::Sheet;
 use std::fmt::Write as _;
 use std::path::Path;
 use std::{fs, io};
@@ -14,6 +15,8 @@ const TOGETHER: usize = 10;
 struct Case {
     sheet: Vec<u8>,
     output: Vec<u8>,
+    /// With 17, which the output alone does not tell.
+    place: Option<usize>,
 }
 
 /// `crates`: the repository's folder of crates; `folder`: where the new crate goes; every `step`th case of the list.
@@ -37,7 +40,8 @@ fn cases(list: &[u8]) -> Vec<Case> {
         number => format!("! {number}\n").into_bytes(),
     };
     let told = sample::stored(list).into_iter().filter(|stored| stored.number != sample::LISTED);
-    told.map(|stored| Case { sheet: stored.sheet.to_vec(), output: output(&stored) }).collect()
+    let place = |stored: &Stored| sample::place(&Sheet::read(stored.sheet)?);
+    told.map(|stored| Case { sheet: stored.sheet.to_vec(), output: output(&stored), place: place(&stored) }).collect()
 }
 
 /// The crates whose definitions have to be opened: each names what it computes by in its file `Computing`.
@@ -59,39 +63,55 @@ fn statement(picked: &[&Case], crates: &[String]) -> String {
 use Prim.Native.Nat.{ℕ}
 use mathlib.Core.List.{List, [], _∷_}
 use mathlib.Core.Path.{_≡_, refl}
-use Rattle.outcomes.specs.Program.{output}
+use Rattle.refusals.specs.declared.Refusal.{Refusal}
+use Rattle.answer.specs.Answers.{Outcome, refused}
+use Rattle.outcomes.specs.Program.{output, sessionText}
 ",
     );
     for krate in crates {
         writeln!(text, "use Rattle.{krate}.specs.Computing as {krate}-computing").unwrap();
     }
     let names: Vec<String> = crates.iter().map(|krate| format!("{krate}-computing.computes")).collect();
-    writeln!(
-        text,
-        "
-outputs : List (List ℕ) → List (List ℕ)
-unfolding {}
-outputs [] = []
-outputs (d ∷ ds) = output d ∷ outputs ds",
-        names.join(" ")
-    )
-    .unwrap();
-    for (i, cases) in picked.chunks(TOGETHER).enumerate() {
-        let sheets: Vec<String> = cases.iter().map(|case| bytes(&case.sheet)).collect();
-        let outputs: Vec<String> = cases.iter().map(|case| bytes(&case.output)).collect();
-        write!(
+    for (list, of, one) in [("outputs", "(List ℕ)", "output"), ("outcomes", "Outcome", "sessionText")] {
+        writeln!(
             text,
             "
-cases-{i} : outputs ({} ∷ []) ≡ {} ∷ []
-unfolding outputs
-cases-{i} = refl
-",
-            sheets.join(" ∷ "),
-            outputs.join(" ∷ ")
+{list} : List (List ℕ) → List {of}
+unfolding {}
+{list} [] = []
+{list} (d ∷ ds) = {one} d ∷ {list} ds",
+            names.join(" ")
         )
         .unwrap();
     }
+    let told: Vec<_> = picked.iter().map(|case| (&case.sheet[..], bytes(&case.output))).collect();
+    compute(&mut text, "outputs", &told);
+    let placed = picked.iter().filter_map(|case| Some((&case.sheet[..], dropped(case.place?))));
+    compute(&mut text, "outcomes", &placed.collect::<Vec<_>>());
     text
+}
+
+/// That the definition gives for each sheet what is said beside it.
+fn compute(text: &mut String, list: &str, cases: &[(&[u8], String)]) {
+    for (i, cases) in cases.chunks(TOGETHER).enumerate() {
+        let sheets: Vec<String> = cases.iter().map(|(sheet, _)| bytes(sheet)).collect();
+        let said: Vec<&str> = cases.iter().map(|(_, said)| &said[..]).collect();
+        write!(
+            text,
+            "
+{list}-{i} : {list} ({} ∷ []) ≡ {} ∷ []
+unfolding {list}
+{list}-{i} = refl
+",
+            sheets.join(" ∷ "),
+            said.join(" ∷ ")
+        )
+        .unwrap();
+    }
+}
+
+fn dropped(place: usize) -> String {
+    format!("refused (Refusal.Dropped {place})")
 }
 
 fn bytes(list: &[u8]) -> String {

@@ -1,26 +1,29 @@
-//! What document 01 rules, with document 02's letters (E3), decided a second time and without a look at the port: which
-//! number a template, a record or a sheet gets, in document 01's order, and the line. Wherever the crate has an answer, it
-//! judges these rulings too.
+//! What document 01 rules, with document 02's letters (E3) and strict templates (E5), decided a second time and without a
+//! look at the port: which number a template, a record or a sheet gets, in the documents' order, and the line. Wherever the
+//! crate has an answer, it judges these rulings too.
 
 pub mod line;
 mod reader;
+mod unused;
 
 pub use line::line;
-pub use reader::parse;
+pub use reader::{parse, Reading};
+pub use unused::{Lost, Unused};
 
 use crate::sheet::{Record, Sheet};
-use crate::tree::{names, Segment, Specifier};
+use crate::tree::{names, Specifier};
 
 /// The program's buffer for a line.
 pub const LINE_ROOM: usize = 65536;
 const MOST_SHEET: usize = 65536;
 const MOST_FIELD: usize = 4096;
 
-/// The segments of a template, or its number: 1 to 9.
-pub fn template(template: &[u8]) -> Result<Vec<Segment>, u8> {
-    let segments = parse(template)?;
-    let has_message = names(&segments, &|specifier| specifier == Specifier::Log);
-    has_message.then_some(segments).ok_or(4)
+/// The reading of a template in the first edition, or its number: 1 to 9. The strict edition reads it where nothing of it
+/// is unused, and gives 17 with the place where something is.
+pub fn template(template: &[u8]) -> Result<Reading, u8> {
+    let reading = parse(template)?;
+    let has_message = names(&reading.segments, &|specifier| specifier == Specifier::Log);
+    has_message.then_some(reading).ok_or(4)
 }
 
 /// 14, 11 or 12, the first that holds of a record.

@@ -5,15 +5,20 @@ mod counts;
 mod letters;
 mod limits;
 pub(crate) mod random;
+mod strict;
 
 use crate::judge::{self, Answer, Shown};
 use crate::kelvin;
+use crate::ruling;
 use crate::sheet::{Record, Sheet, DEVICE};
 use crate::VERSIONS;
 use cases::Case;
 use std::io;
 
 pub const SEED: u64 = 1;
+
+/// The number of a case in the strict edition whose template is not used up.
+pub(crate) const DROPPED: u8 = 17;
 
 /// The number of a case with a listed difference that is no limit of the port.
 pub(crate) const LISTED: u8 = 255;
@@ -47,9 +52,10 @@ Run with: {VERSIONS}
 Cases: {count}
 After the first empty line, for each case: u8 N; u32 length and a session sheet; u32 length and the output. Little-endian.
 Output: what the port's program prints for the sheet if its lines are the crate's: each line and a newline, or `! 3` or
-`! 4` and a newline for the sheet; `panic` and a newline where the crate panics; `! 2` and `! 12` where it cannot be asked.
+`! 4` and a newline for the sheet; `panic` and a newline where the crate panics; `! 2`, `! 12` and `! 14` where it cannot be asked.
 N 0: the port prints the same.
 N 1, 2, 5 to 9, 11, 12: the port refuses with that number; the output is the crate's, which knows no such limit.
+N 17: the settings byte has bit 4, the strict edition, and the port refuses; the output is the crate's, which knows one edition.
 N 255: another listed difference: a present empty file with {{f}} (the crate panics), a message that its color_diff lays
 out, a width with colour sequences above 65,535 (it panics), a colour word with the Kelvin sign (a k to it).
 
@@ -84,6 +90,8 @@ fn sized(bytes: &[u8]) -> (&[u8], &[u8]) {
 /// A case that is to be printed alike must be within every limit; a list with a wrong case is not written.
 fn check(case: &Case, answer: &Answer) {
     let name = || String::from_utf8_lossy(&case.sheet.template).into_owned();
+    let strictly = place(&case.sheet).is_some();
+    assert_eq!(strictly, case.number == DROPPED, "in its edition: {:?}", name());
     if case.number == 0 {
         assert!(within_sizes(&case.sheet, answer), "a size is crossed: {:?}", name());
         assert!(!answer.panicked(), "the crate panics: {:?}", name());
@@ -93,6 +101,14 @@ fn check(case: &Case, answer: &Answer) {
     } else {
         assert_eq!(case.sheet.records.len(), 1, "a difference stands alone: {:?}", name());
     }
+}
+
+/// Where the sheet's template is refused with 17, which the crate must bear out.
+pub(crate) fn place(sheet: &Sheet) -> Option<usize> {
+    let reading = ruling::template(&sheet.template).ok().filter(|_| sheet.strict())?;
+    let template = std::str::from_utf8(&sheet.template).expect("what is read is UTF-8");
+    crate::strict::judged(template, &reading).expect("judged by the crate");
+    reading.unused.place()
 }
 
 /// Sizes of document 01: template, fields, lines, the sheet; and records that it accepts.

@@ -2,6 +2,8 @@
 
 pub const COLOUR: u8 = 1;
 pub const STRAIGHT: u8 = 2;
+/// The strict edition of the template rules (document 02, E5).
+pub const STRICT: u8 = 4;
 
 pub const FILE: u8 = 1;
 pub const LINE: u8 = 2;
@@ -97,6 +99,10 @@ impl Sheet {
         self.settings & COLOUR != 0
     }
 
+    pub fn strict(&self) -> bool {
+        self.settings & STRICT != 0
+    }
+
     pub fn write(&self) -> Vec<u8> {
         let mut bodies = vec![[&[self.settings], &self.template[..]].concat()];
         bodies.extend(self.records.iter().map(Record::write));
@@ -107,7 +113,7 @@ impl Sheet {
     pub fn read(sheet: &[u8]) -> Option<Sheet> {
         let bodies = read_bodies(sheet)?;
         let (&settings, template) = bodies.first()?.split_first()?;
-        if settings & !(COLOUR | STRAIGHT) != 0 {
+        if settings & !(COLOUR | STRAIGHT | STRICT) != 0 {
             return None;
         }
         let records = bodies[1..].iter().map(|body| Record::read(body)).collect::<Option<_>>()?;

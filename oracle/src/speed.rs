@@ -7,14 +7,14 @@ mod timing;
 
 use crate::judge::set_colour;
 use crate::ruling::line::without_sequences;
-use crate::sheet::{Record, COLOUR, FILE, LINE, MODULE, STRAIGHT};
+use crate::sheet::{Record, COLOUR, FILE, LINE, MODULE, STRAIGHT, STRICT};
 use crate::stub::format::{built_in, Template};
 use crate::stub::{DefmtRecord, Payload};
 use crate::VERSIONS;
 use pralakuon::entries;
 use std::env::consts::ARCH;
 use std::hint::black_box;
-use timing::{in_turn, shown};
+use timing::{all_in_turn, in_turn, shown, Works, USUAL};
 
 const FILE_NAME: &str = "/srv/scan/firmware/src/gauge.rs";
 const MODULE_PATH: &str = "firmware::gauge::measure";
@@ -65,14 +65,24 @@ fn built_ins() -> impl Iterator<Item = &'static str> {
     (0..8).map(|n| built_in(n & 4 != 0, n & 2 != 0, n & 1 != 0))
 }
 
+/// In the first edition, beside the crate, and in the strict edition beside the first.
 fn reading() {
-    println!("| reading | crate, ns | port, ns | crate / port |\n|---|---|---|---|");
+    println!("| reading | crate, ns | port, ns | crate / port | port, strict, ns | strict / first |\n|---|---|---|---|---|---|");
     for template in built_ins().chain(NAMED) {
         let crates = || Template::read(black_box(template)).is_ok();
-        let ports = || entries::check(black_box(template.as_bytes()));
-        assert_eq!((crates(), ports()), (true, 0), "{template} is read");
-        let (theirs, ours) = in_turn(crates, ports);
-        println!("| `{}` | {} | {} | {} |", template.escape_debug(), shown(theirs), shown(ours), shown(theirs / ours));
+        let ports = |settings| move || entries::check(black_box(template.as_bytes()), settings);
+        assert_eq!((crates(), ports(0)(), ports(STRICT)()), (true, 0, 0), "{template} is read");
+        let works: Works<3> = [Box::new(crates), Box::new(ports(0)), Box::new(ports(STRICT))];
+        let [theirs, ours, strict] = all_in_turn(vec![works], USUAL)[0];
+        println!(
+            "| `{}` | {} | {} | {} | {} | {} |",
+            template.escape_debug(),
+            shown(theirs),
+            shown(ours),
+            shown(theirs / ours),
+            shown(strict),
+            shown(strict / ours)
+        );
     }
     println!();
 }

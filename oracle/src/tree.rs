@@ -89,6 +89,14 @@ fn segment_dump(segment: &Segment) -> String {
     }
 }
 
+/// As a template names it.
+pub fn word_of(specifier: Specifier) -> String {
+    match specifier {
+        Specifier::FileName(count) => "f".repeat(count.into()),
+        specifier => specifier_name(specifier),
+    }
+}
+
 fn specifier_name(specifier: Specifier) -> String {
     match specifier {
         Specifier::FileName(count) => format!("f{count}"),

@@ -1,22 +1,22 @@
 -- Answers and buffers by the room that there is, and the line of a record that passed its checks. Assumes nothing.
-use Prim.Native.Nat.{ℕ, _≤_, _<_, _^_}
+use Prim.Native.Nat.{ℕ, _≤_}
 use mathlib.Core.Path.{_≡_, refl, sym, ap, subst, _∙_}
 use mathlib.Core.Bool.{Bool, true, false}
 use mathlib.Core.List.{List, append-nil}
 use native.Mathlib.Omega.{arith}
-use borrow.Author.Tests.{le-leb, lt-leb, le-ltb, lt-ltb, leb-true}
 use lib.Dec.{leb}
 use lib.ListN.{length}
 use Rattle.buffer.specs.Buffer.{putAt, written}
 use Rattle.buffer.specs.Table.{Maybe, none, some}
 use Rattle.utf8.specs.Utf8.{valid}
 use Rattle.refusals.specs.declared.Refusal.{Refusal}
-use Rattle.refusals.specs.Numbers.{number, lengthWith}
+use Rattle.refusals.specs.Numbers.{number, valueWith}
 use Rattle.words.specs.declared.Color.{Color}
 use Rattle.colour.specs.declared.Settings.{Settings}
 use Rattle.colour.specs.Shown.{textOf, joined}
 use Rattle.segments.specs.Segments.{LogSegments}
-use Rattle.template.specs.Template.{Template, read, refusal, readTemplate}
+use Rattle.template.specs.declared.Edition.{Edition}
+use Rattle.template.specs.Template.{read, refusal, readBy}
 use Rattle.record.specs.declared.Places.{Places}
 use Rattle.record.specs.Layout.{Laid, laidOut, rightSize}
 use Rattle.record.specs.Placed.{laidBy}
@@ -32,9 +32,9 @@ use Rattle.rows.specs.Texts.{segmentsText}
 use Rattle.rows.specs.Rows.{Writable}
 use Rattle.packing.specs.declared.Answer.{Answer}
 use Rattle.answer.specs.Answers.{Outcome, line, refused, inRoom, passed, recordOutcome, bufferAfter, answerOf, packed, byTemplate, outcome, isCall, callOutcome}
-use Rattle.settings.specs.Bits.{settingsOf}
+use Rattle.settings.specs.Bits.{isKnown, settingsOf, editionOf}
 use Rattle.answer.specs.Rooms.{Accepted}
-use Rattle.packing.specs.Packing.{answerIn, Packable, packedAnswer}
+use Rattle.packing.specs.Packing.{answerIn, packedAnswer}
 
 -- ---- by the room
 
@@ -70,7 +70,7 @@ module _ (s : Settings) (t : List ℕ) (c : LogSegments) (l : Laid) (room : ℕ)
 -- no check of a record tells a length
 abbrev Unsized : Maybe Refusal → Type 0
 Unsized none = Unit {0}
-Unsized (some r) = lengthWith r ≡ 0
+Unsized (some r) = valueWith r ≡ 0
 
 field-unsized : (x : List ℕ) → Unsized (fieldRefusal x)
 unfolding fieldRefusal
@@ -97,7 +97,7 @@ record-unsized l = by (badlyMarked l)
     by true = refl
     by false = fields
 
-pub refusal-unsized : (l : Laid) (r : Refusal) → recordRefusal l ≡ some r → lengthWith r ≡ 0
+pub refusal-unsized : (l : Laid) (r : Refusal) → recordRefusal l ≡ some r → valueWith r ≡ 0
 refusal-unsized l r e = subst Unsized e (record-unsized l)
 
 -- ---- the line
@@ -180,34 +180,27 @@ unfolding packedAnswer answerOf packed
 packed-answer (line s) = refl
 packed-answer (refused r) = refl
 
--- a template that is read is short
-pub read-short : (t : List ℕ) (s : LogSegments) → readTemplate t ≡ read s → length t ≤ 1024
-unfolding readTemplate
-read-short t s e = by (leb (length t) 1024) refl _ e
-  where
-    by : (b : Bool) → leb (length t) 1024 ≡ b → (x : Template)
-        → _≡_ {A = Template} (elim b [ true ↦ x | false ↦ refusal Refusal.TemplateTooLong ]) (read s) → length t ≤ 1024
-    by true h x k = leb-true (length t) 1024 h
-    by false h x k = absurd (let z : _≡_ {A = ℕ} 0 1 = cc in let y : ⊥ = omega arith in y)
+pub same-outcome : (e e′ : Edition) (s s′ : Settings) → e ≡ e′ → s ≡ s′ → (t : List ℕ) (l : Laid) (room : ℕ) → outcome e s t l room ≡ outcome e′ s′ t l room
+same-outcome e e′ s s′ p q t l room = λ k. outcome (p k) (q k) t l room
 
-module _ (s : Settings) (t : List ℕ) (l : Laid) (room : ℕ) where
-  pub read-outcome : (c : LogSegments) → readTemplate t ≡ read c → recordOutcome s t c l room ≡ outcome s t l room
+module _ (edition : Edition) (s : Settings) (t : List ℕ) (l : Laid) (room : ℕ) where
+  pub read-outcome : (c : LogSegments) → readBy edition t ≡ read c → recordOutcome s t c l room ≡ outcome edition s t l room
   unfolding outcome byTemplate
   read-outcome c e = ap (byTemplate s t l room) (sym e)
 
-  pub unread-outcome : (r : Refusal) → readTemplate t ≡ refusal r → refused r ≡ outcome s t l room
+  pub unread-outcome : (r : Refusal) → readBy edition t ≡ refusal r → refused r ≡ outcome edition s t l room
   unfolding outcome byTemplate
   unread-outcome r e = ap (byTemplate s t l room) (sym e)
 
 module _ (settings : ℕ) (t d : List ℕ) (room : ℕ) where
-  pub unknown-bit : 4 ≤ settings → refused Refusal.NotASheet ≡ callOutcome settings t d room
+  pub unknown-bit : isKnown settings ≡ false → refused Refusal.NotASheet ≡ callOutcome settings t d room
   unfolding callOutcome isCall
-  unknown-bit h = rw (le-ltb settings 4 h, callOutcome)
+  unknown-bit h = rw (h, callOutcome)
 
-  pub wrong-size : settings < 4 → rightSize d ≡ false → refused Refusal.NotASheet ≡ callOutcome settings t d room
+  pub wrong-size : isKnown settings ≡ true → rightSize d ≡ false → refused Refusal.NotASheet ≡ callOutcome settings t d room
   unfolding callOutcome isCall
-  wrong-size h e = rw (lt-ltb settings 4 h, e, callOutcome)
+  wrong-size h e = rw (h, e, callOutcome)
 
-  pub is-call : settings < 4 → rightSize d ≡ true → outcome (settingsOf settings) t (laidOut d) room ≡ callOutcome settings t d room
+  pub is-call : isKnown settings ≡ true → rightSize d ≡ true → outcome (editionOf settings) (settingsOf settings) t (laidOut d) room ≡ callOutcome settings t d room
   unfolding callOutcome isCall
-  is-call h e = rw (lt-ltb settings 4 h, e, callOutcome)
+  is-call h e = rw (h, e, callOutcome)

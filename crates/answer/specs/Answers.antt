@@ -1,19 +1,20 @@
 -- What a line call answers, and what it leaves in the lent buffer. Assumes nothing.
-use Prim.Native.Nat.{ℕ, _+_, _*_, _/_, _%_}
+use Prim.Native.Nat.{ℕ, _+_, _*_}
 use mathlib.Core.Path.{_≡_}
 use mathlib.Core.Bool.{Bool, true, false, _&&_}
 use mathlib.Core.List.{List, [], _∷_}
-use lib.Dec.{eqb, leb, ltb}
+use lib.Dec.{leb}
 use lib.ListN.{length}
 use Rattle.buffer.specs.Buffer.{putAt}
 use Rattle.buffer.specs.Table.{Maybe, none, some}
 use Rattle.refusals.specs.declared.Refusal.{Refusal}
-use Rattle.refusals.specs.Numbers.{number, lengthWith}
+use Rattle.refusals.specs.Numbers.{number, valueWith}
 use Rattle.packing.specs.declared.Answer.{Answer}
 use Rattle.colour.specs.declared.Settings.{Settings}
-use Rattle.settings.specs.Bits.{settingsOf}
+use Rattle.settings.specs.Bits.{isKnown, settingsOf, editionOf}
 use Rattle.segments.specs.Segments.{LogSegments}
-use Rattle.template.specs.Template.{Template, read, refusal, readTemplate}
+use Rattle.template.specs.declared.Edition.{Edition}
+use Rattle.template.specs.Template.{Template, read, refusal, readBy}
 use Rattle.fields.specs.Lines.{lineOf}
 use Rattle.record.specs.Layout.{Laid, rightSize, laidOut}
 use Rattle.checks.specs.Checks.{recordRefusal}
@@ -42,20 +43,20 @@ unfoldable pub byTemplate : Settings → List ℕ → Laid → ℕ → Template 
 byTemplate settings t d room (read s) = recordOutcome settings t s d room
 byTemplate settings t d room (refusal r) = refused r
 
--- Order: 1; 2; then 3 and 5 to 9; 4; 14; "then for file, module, timestamp, message in turn 11 before 12; 13": the record d by the
--- template t, with so much room in the lent buffer
-unfoldable pub outcome : Settings → List ℕ → Laid → ℕ → Outcome
-outcome settings t d room = byTemplate settings t d room (readTemplate t)
+-- Order: 1; 2; then 3 and 5 to 9; 4; 17; 14; "then for file, module, timestamp, message in turn 11 before 12; 13": the record d by the
+-- template t in that edition, with so much room in the lent buffer
+unfoldable pub outcome : Edition → Settings → List ℕ → Laid → ℕ → Outcome
+outcome edition settings t d room = byTemplate settings t d room (readBy edition t)
 
 -- "Every refusal leaves lent memory as found. An accepted line changes only its own bytes at the front of the buffer"
 unfoldable pub bufferAfter : List ℕ → Outcome → List ℕ
 bufferAfter d (line s) = putAt d 0 s
 bufferAfter d (refused r) = d
 
--- "Every refusal returns its number (13 also the length; no other refusal returns one)": number + 256 × length
+-- "Every refusal returns its number (13 also the length; no other refusal returns one)"; 17 "with the place": number + 256 × length or place
 unfoldable pub packed : Outcome → ℕ
 packed (line s) = 256 * length s
-packed (refused r) = number r + 256 * lengthWith r
+packed (refused r) = number r + 256 * valueWith r
 
 -- "The statement settles answer and buffers for each input, refused or not": what an entry returns and leaves in the buffer lent to it
 pub record Meets (o : Outcome) (lent left : List ℕ) (answer : ℕ) : Type 0 where
@@ -66,13 +67,13 @@ pub record Meets (o : Outcome) (lent left : List ℕ) (answer : ℕ) : Type 0 wh
 
 -- "an unknown settings bit or a record of the wrong size is 15", in a call as in a sheet
 unfoldable pub isCall : ℕ → List ℕ → Bool
-isCall settings d = ltb settings 4 && rightSize d
+isCall settings d = isKnown settings && rightSize d
 
 -- the outcome of a call with so much room
 unfoldable pub callOutcome : ℕ → List ℕ → List ℕ → ℕ → Outcome
 callOutcome settings t d room =
     elim (isCall settings d) [
-      | true ↦ outcome (settingsOf settings) t (laidOut d) room
+      | true ↦ outcome (editionOf settings) (settingsOf settings) t (laidOut d) room
       | false ↦ refused Refusal.NotASheet
     ]
 

@@ -11,7 +11,10 @@ use record::layout::places_in;
 use record::layout::right_size;
 use record::levels::level_of;
 use refusals::Refusal;
+use settings::edition_of;
+use settings::is_known;
 use settings::settings_of;
+use template::Edition;
 use template::Parsed;
 use template::parse;
 ghost use mathlib.Core.Path.{_≡_};
@@ -151,14 +154,14 @@ pub fn measure_record(
 }
 
 // The record d by the template t, which is read for it alone.
-fn read_and_answer(t: &[u8], s: Settings, d: &[u8], out: &mut [u8]) -> Answer
+fn read_and_answer(edition: Edition, t: &[u8], s: Settings, d: &[u8], out: &mut [u8]) -> Answer
     requires { ⌜ rightSize (now d) ≡ true ⌝ }
-    ensures answer { λ r. ⌜ r ≡ answerOf (outcome s (now (t .entry)) (laidOut (now (d .entry))) (length (now (out .entry)))) ⌝ }
-    ensures buffer { λ r. ⌜ now (out .exit) ≡ bufferAfter (now (out .entry)) (outcome s (now (t .entry)) (laidOut (now (d .entry))) (length (now (out .entry)))) ⌝ }
+    ensures answer { λ r. ⌜ r ≡ answerOf (outcome edition s (now (t .entry)) (laidOut (now (d .entry))) (length (now (out .entry)))) ⌝ }
+    ensures buffer { λ r. ⌜ now (out .exit) ≡ bufferAfter (now (out .entry)) (outcome edition s (now (t .entry)) (laidOut (now (d .entry))) (length (now (out .entry)))) ⌝ }
     ensures packable { λ r. ⌜ Packable r ⌝ }
 {
     let mut cells: [usize; 512] = [0; 512];
-    let read = parse(t, &mut cells);
+    let read = parse(edition, t, &mut cells);
     match read {
         Parsed::Read(n) => answer_record(&cells, n, t, s, d, out.len(), out),
         Parsed::Refused(r) => Answer::Refused(r),
@@ -171,11 +174,11 @@ pub fn line(t: &[u8], settings: u8, d: &[u8], out: &mut [u8]) -> Answer
     ensures buffer { λ r. ⌜ now (out .exit) ≡ bufferAfter (now (out .entry)) (lineEntry (now (t .entry)) settings (now (d .entry)) (now (out .entry))) ⌝ }
     ensures packable { λ r. ⌜ Packable r ⌝ }
 {
-    if 4 <= settings {
+    if !is_known(settings) {
         return Answer::Refused(Refusal::NotASheet);
     }
     if right_size(d) {
-        return read_and_answer(t, settings_of(settings), d, out);
+        return read_and_answer(edition_of(settings), t, settings_of(settings), d, out);
     }
     Answer::Refused(Refusal::NotASheet)
 }

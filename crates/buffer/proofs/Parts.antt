@@ -13,14 +13,13 @@ use Rattle.buffer.specs.Bytes.{part}
 pub drop-step : (s : List ℕ) (i : ℕ) → i < length s → drop i s ≡ getD s i 0 ∷ drop (i + 1) s
 drop-step s i h = rw (add-one, drop-cons s i 0)
 
+-- the first byte of what is left at a place is the byte there
+pub first-left : (s : List ℕ) (i : ℕ) → getD (drop i s) 0 0 ≡ getD s i 0
+first-left s i = getD-drop i s 0 0 ∙ ap (λ (k : ℕ). getD s k 0) (add-zero i)
+
 -- two lists that agree from a place on have the same byte there
 pub same-byte : (a b : List ℕ) (i : ℕ) → drop i a ≡ drop i b → getD a i 0 ≡ getD b i 0
-same-byte a b i e =
-    ap (λ (k : ℕ). getD a k 0) (sym (add-zero i))
-    ∙ sym (getD-drop i a 0 0)
-    ∙ ap (λ (l : List ℕ). getD l 0 0) e
-    ∙ getD-drop i b 0 0
-    ∙ ap (λ (k : ℕ). getD b k 0) (add-zero i)
+same-byte a b i e = sym (first-left a i) ∙ ap (λ (l : List ℕ). getD l 0 0) e ∙ first-left b i
 
 -- two lists that agree from a place on agree from the next on
 pub drop-more : (a b : List ℕ) (i : ℕ) → drop i a ≡ drop i b → drop (i + 1) a ≡ drop (i + 1) b

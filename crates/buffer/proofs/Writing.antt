@@ -6,7 +6,7 @@ use native.Mathlib.Nat.{add-zero}
 use native.Mathlib.Numerals.{add-one}
 use native.Mathlib.Omega.{arith}
 use lib.ListN.{length, take, drop, getD, set, take-append-drop, length-append, length-drop, replicate, length-replicate, replicate-append-replicate}
-use lib.Seq.{drop-cons, take-suc, length-take-le, take-at, drop-at, set-at, drop-drop, drop-append-add, take-append-le, take-take}
+use lib.Seq.{drop-cons, take-suc, length-take-le, take-all, take-at, drop-at, set-at, drop-drop, drop-append-add, take-append-le, take-take}
 use Rattle.buffer.specs.Bytes.{part}
 use Rattle.buffer.specs.Buffer.{putAt}
 
@@ -53,6 +53,22 @@ put-next d at s i h g =
     ap (λ (k : ℕ). set (putAt d at (take i s)) (at + k) (getD s i 0)) (sym l)
     ∙ put-snoc d at (take i s) (getD s i 0) (omega arith)
     ∙ ap (putAt d at) e
+
+-- a copy byte by byte: so far the first i bytes of m are written to the front of d
+module _ (d m : List ℕ) (i : ℕ) (f : length m ≤ length d) where
+  pub copy-length : i ≤ length m → length (putAt d 0 (take i m)) ≡ length d
+  copy-length h = put-length d 0 (take i m) (omega (arith, length-take-le i m h, f))
+
+  pub copy-more : (e : List ℕ) (x : ℕ) → e ≡ putAt d 0 (take i m) → i < length m → x ≡ getD m i 0 → set e i x ≡ putAt d 0 (take (i + 1) m)
+  copy-more e x q h r =
+      let z : i ≡ 0 + i = omega arith in
+      ap (λ (s : List ℕ). set s i x) q
+      ∙ ap (set (putAt d 0 (take i m)) i) r
+      ∙ ap (λ (k : ℕ). set (putAt d 0 (take i m)) k (getD m i 0)) z
+      ∙ put-next d 0 m i h (omega (arith, f))
+
+  pub copy-done : (e : List ℕ) → e ≡ putAt d 0 (take i m) → length m ≤ i → e ≡ putAt d 0 m
+  copy-done e q h = q ∙ ap (putAt d 0) (take-all i m h)
 
 -- one turn of a fill
 pub fill-next : (d : List ℕ) (at n b i : ℕ) → i < n → at + n ≤ length d → set (putAt d at (replicate i b)) (at + i) b ≡ putAt d at (replicate (i + 1) b)

@@ -11,6 +11,7 @@ use Rattle.visible.proofs as visible
 use Rattle.sheet.proofs as sheet
 use Rattle.outcomes.proofs as outcomes
 use Rattle.session.proofs as session
+use Rattle.caret.proofs as caret
 
 -- ---- packing
 
@@ -19,6 +20,9 @@ answer-in-settled _ _ _ _ _ _ p q = (same p q, refl)
 
 pack-settled : Settled 0 packing.pack.Kinds.ps packing.pack.Kinds.r packing.pack.Reads.Post
 pack-settled _ _ _ _ _ _ p q = (same p q, refl)
+
+pack-refusal-settled : Settled 0 packing.pack_refusal.Kinds.ps packing.pack_refusal.Kinds.r packing.pack_refusal.Reads.Post
+pack-refusal-settled _ _ _ _ _ _ p q = (same p q, refl)
 
 -- ---- answer
 
@@ -84,3 +88,11 @@ first-record-settled _ _ _ _ _ _ p q = (same (p .0) (q .0), refl)
 
 next-record-settled : Settled 1 session.walking.next_record.Kinds.ps session.walking.next_record.Kinds.r session.walking.next_record.Reads.Post
 next-record-settled _ _ _ _ _ _ p q = (same (p .0) (q .0), refl)
+
+-- ---- caret
+
+put-line-settled : Settled 2 caret.put_line.Kinds.ps caret.put_line.Kinds.r caret.put_line.Reads.Post
+put-line-settled _ _ _ _ _ _ p q = (same (p .0 .0) (q .0 .0), past (past (here (same (p .0 .1) (q .0 .1)))))
+
+put-caret-settled : Settled 2 caret.put_caret.Kinds.ps caret.put_caret.Kinds.r caret.put_caret.Reads.Post
+put-caret-settled _ _ _ _ _ _ p q = (same (p .0 .0) (q .0 .0), past (past (here (same (p .0 .1) (q .0 .1)))))

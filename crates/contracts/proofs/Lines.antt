@@ -26,6 +26,12 @@ use Rattle.line.proofs as line
 settings-of-settled : Settled 0 settings.settings_of.Kinds.ps settings.settings_of.Kinds.r settings.settings_of.Reads.Post
 settings-of-settled _ _ _ _ _ _ p q = (same p q, refl)
 
+edition-of-settled : Settled 0 settings.edition_of.Kinds.ps settings.edition_of.Kinds.r settings.edition_of.Reads.Post
+edition-of-settled _ _ _ _ _ _ p q = (same p q, refl)
+
+is-known-settled : Settled 0 settings.is_known.Kinds.ps settings.is_known.Kinds.r settings.is_known.Reads.Post
+is-known-settled _ _ _ _ _ _ p q = (same p q, refl)
+
 -- ---- record
 
 right-size-settled : Settled 1 records.layout.right_size.Kinds.ps records.layout.right_size.Kinds.r records.layout.right_size.Reads.Post

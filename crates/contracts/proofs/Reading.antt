@@ -1,9 +1,11 @@
 -- Every contract of the functions that read templates settles its result and what is lent, each under the function's own name.
 -- p and q say that two results meet it; `past` and `here` lead to the lent buffer among the parameters. Assumes nothing.
+use Prim.Native.Nat.{_-_, _≤_}
 use mathlib.Core.Path.{refl}
+use native.Mathlib.Omega.{arith}
 use Rattle.settled.specs.Settled.{Settled}
 use Rattle.settled.proofs.Equal.{same, here, past}
-use Rattle.contracts.proofs.Told.{told-metadata, told-format}
+use Rattle.contracts.proofs.Told.{told-metadata, told-format, told-parts, told-place}
 use Rattle.refusals.proofs as refusals
 use Rattle.buffer.proofs as buffer
 use Rattle.utf8.proofs as utf8
@@ -18,6 +20,9 @@ use Rattle.naming.proofs as naming
 use Rattle.parts.proofs as parts
 use Rattle.braces.proofs as braces
 use Rattle.lists.proofs as lists
+use Rattle.reader.proofs as reader
+use Rattle.endings.proofs as endings
+use Rattle.unused.proofs as unused
 use Rattle.template.proofs as template
 
 -- ---- refusals
@@ -25,8 +30,8 @@ use Rattle.template.proofs as template
 number-of-settled : Settled 0 refusals.number_of.Kinds.ps refusals.number_of.Kinds.r refusals.number_of.Reads.Post
 number-of-settled _ _ _ _ _ _ p q = (same (p .0) (q .0), refl)
 
-length-with-settled : Settled 0 refusals.length_with.Kinds.ps refusals.length_with.Kinds.r refusals.length_with.Reads.Post
-length-with-settled _ _ _ _ _ _ p q = (same p q, refl)
+value-with-settled : Settled 0 refusals.value_with.Kinds.ps refusals.value_with.Kinds.r refusals.value_with.Reads.Post
+value-with-settled _ _ _ _ _ _ p q = (same p q, refl)
 
 -- ---- buffer
 
@@ -168,11 +173,51 @@ take-until-unbalanced-settled _ _ _ _ _ _ p q = (same (p .0) (q .0), refl)
 
 -- ---- lists
 
+plain-end-settled : Settled 1 lists.plain_end.Kinds.ps lists.plain_end.Kinds.r lists.plain_end.Reads.Post
+plain-end-settled _ _ _ _ _ _ p q = (same (p .0) (q .0), refl)
+
+parse-word-settled : Settled 1 lists.parse_word.Kinds.ps lists.parse_word.Kinds.r lists.parse_word.Reads.Post
+parse-word-settled _ _ _ _ _ _ p q = (told-parts _ _ (same (p .0) (q .0)), refl)
+
+parse-parameter-settled : Settled 1 lists.parse_parameter.Kinds.ps lists.parse_parameter.Kinds.r lists.parse_parameter.Reads.Post
+parse-parameter-settled _ _ _ _ _ _ p q = (told-parts _ _ (same (p .0) (q .0)), refl)
+
+-- the number of words is bounded by any number that is large enough: here by the end
+further-words-settled : Settled 1 lists.further_words.Kinds.ps lists.further_words.Kinds.r lists.further_words.Reads.Post
+further-words-settled _ a _ _ _ _ p q =
+    let to = a .1 .1 .0 in
+    let h : to - a .1 .0 ≤ to = omega arith in
+    (told-parts _ _ (same (p .0 to h) (q .0 to h)), refl)
+
 with-segment-settled : Settled 0 lists.with_segment.Kinds.ps lists.with_segment.Kinds.r lists.with_segment.Reads.Post
 with-segment-settled _ _ _ _ _ _ p q = (same p q, refl)
 
 with-member-settled : Settled 0 lists.with_member.Kinds.ps lists.with_member.Kinds.r lists.with_member.Reads.Post
 with-member-settled _ _ _ _ _ _ p q = (same p q, refl)
+
+-- ---- reader
+
+separator-of-settled : Settled 0 reader.separator_of.Kinds.ps reader.separator_of.Kinds.r reader.separator_of.Reads.Post
+separator-of-settled _ _ _ _ _ _ p q = (same p q, refl)
+
+-- ---- endings
+
+parameter-end-settled : Settled 1 endings.parameter_end.Kinds.ps endings.parameter_end.Kinds.r endings.parameter_end.Reads.Post
+parameter-end-settled _ _ _ _ _ _ p q = (same (p .0) (q .0), refl)
+
+word-end-settled : Settled 1 endings.word_end.Kinds.ps endings.word_end.Kinds.r endings.word_end.Reads.Post
+word-end-settled _ _ _ _ _ _ p q = (same (p .0) (q .0), refl)
+
+text-end-settled : Settled 1 endings.text_end.Kinds.ps endings.text_end.Kinds.r endings.text_end.Reads.Post
+text-end-settled _ _ _ _ _ _ p q = (same (p .0) (q .0), refl)
+
+plain-piece-end-settled : Settled 1 endings.plain_piece_end.Kinds.ps endings.plain_piece_end.Kinds.r endings.plain_piece_end.Reads.Post
+plain-piece-end-settled _ _ _ _ _ _ p q = (same (p .0) (q .0), refl)
+
+-- ---- unused
+
+unused-in-settled : Settled 1 unused.unused_in.Kinds.ps unused.unused_in.Kinds.r unused.unused_in.Reads.Post
+unused-in-settled _ _ _ _ _ _ p q = (told-place _ _ (p .1) (q .1) (same (p .0) (q .0)), refl)
 
 -- ---- template
 

@@ -7,22 +7,22 @@ use mathlib.Core.Logic.{_↔_, inl, inr}
 use native.Mathlib.Omega.{arith}
 use lib.Dec.{leb, ltb}
 use lib.ListN.{length}
-use borrow.Author.Tests.{ltb-true, ltb-false}
+use borrow.Author.Tests.{ltb-true, ltb-false, le-ltb, lt-ltb}
 use Rattle.buffer.proofs.Sameness.{both-true}
 use Rattle.buffer.specs.Table.{Maybe, none, some}
 use Rattle.refusals.specs.declared.Refusal.{Refusal}
-use Rattle.refusals.specs.declared.Refusal.the-variants.{TemplateTooLong, TemplateNotUtf8, Failure, NoMessage, TooManySegments, TooDeep, TooWide, TooManyF, HalfEscape, FieldTooLong, FieldNotUtf8, LineTooLong, NotARecord, NotASheet}
+use Rattle.refusals.specs.declared.Refusal.the-variants.{TemplateTooLong, TemplateNotUtf8, Failure, NoMessage, TooManySegments, TooDeep, TooWide, TooManyF, HalfEscape, FieldTooLong, FieldNotUtf8, LineTooLong, NotARecord, NotASheet, Dropped}
 use Rattle.refusals.specs.Numbers.{number}
 use Rattle.segments.specs.Segments.{LogSegments}
-use Rattle.template.specs.Template.{Template, read, refusal, readTemplate}
+use Rattle.template.specs.Template.{Template, read, refusal, readBy}
 use Rattle.record.specs.Layout.{rightSize, laidOut}
 use Rattle.checks.specs.Checks.{recordRefusal}
-use Rattle.settings.specs.Bits.{settingsOf}
+use Rattle.settings.specs.Bits.{isKnown, settingsOf, editionOf}
 use Rattle.answer.specs.Answers.{Outcome, line, refused, inRoom, passed, recordOutcome, byTemplate, outcome, isCall, callOutcome, lineEntry}
 use Rattle.answer.proofs.Answering.{unknown-bit, wrong-size, is-call, read-outcome, unread-outcome, passed-outcome, refused-outcome}
-use Rattle.demands.specs.Conditions.{TemplateLong, TemplateBroken, Stops, Wordless, Accepts, BadlyMarked, RecordLong, RecordBroken, NoCall, IsCall, AcceptedCall, callLine}
+use Rattle.demands.specs.Conditions.{TemplateLong, TemplateBroken, Stops, Wordless, Accepts, Drops, BadlyMarked, RecordLong, RecordBroken, NoCall, IsCall, AcceptedCall, callLine}
 use Rattle.demands.specs.Demand1.{numberOf, CallDemand1}
-use Rattle.demands.proofs.Numbers.{refused-of, line-of, too-long-of, never-ten, length-told, lengthOf, returns, room-line, room-none, room-length, numbered}
+use Rattle.demands.proofs.Numbers.{Alone, refused-of, line-of, too-long-of, dropped-of, dropped-told, never-ten, length-told, lengthOf, returns, room-line, room-none, room-length, numbered}
 use Rattle.demands.proofs.Templates.{RefusedWhen, accepted, refused-when, only-refused}
 use Rattle.demands.proofs.Records.{RecordRefusedWhen, passes-when}
 use Rattle.demands.proofs.Records as records
@@ -31,7 +31,7 @@ module _ (t : List ℕ) (settings : ℕ) (d : List ℕ) (room : ℕ) where
   -- ---- the table
 
   abbrev IsRead : Type 0
-  IsRead = (s : LogSegments) × Accepts t s
+  IsRead = (s : LogSegments) × Accepts (editionOf settings) t s
 
   -- what has a line, in whatever room
   abbrev HasLine : Type 0
@@ -52,6 +52,7 @@ module _ (t : List ℕ) (settings : ℕ) (d : List ℕ) (room : ℕ) where
   CallRefusedWhen (LineTooLong n) = HasLine
   CallRefusedWhen NotARecord = IsCall settings d × IsRead × BadlyMarked (laidOut d)
   CallRefusedWhen NotASheet = NoCall settings d
+  CallRefusedWhen (Dropped p) = IsCall settings d × Drops (editionOf settings) t p
 
   abbrev CallWhen : Outcome → Type 0
   CallWhen (line x) = HasLine
@@ -59,7 +60,7 @@ module _ (t : List ℕ) (settings : ℕ) (d : List ℕ) (room : ℕ) where
 
   -- ---- what is given stands in the table
 
-  by-template : IsCall settings d → (r : Refusal) → RefusedWhen t r → CallRefusedWhen r
+  by-template : IsCall settings d → (r : Refusal) → RefusedWhen (editionOf settings) t r → CallRefusedWhen r
   by-template c TemplateTooLong w = (c, w)
   by-template c TemplateNotUtf8 w = (c, w)
   by-template c Failure w = (c, w)
@@ -74,6 +75,7 @@ module _ (t : List ℕ) (settings : ℕ) (d : List ℕ) (room : ℕ) where
   by-template c (LineTooLong n) w = absurd w
   by-template c NotARecord w = absurd w
   by-template c NotASheet w = absurd w
+  by-template c (Dropped p) w = (c, w)
 
   by-record : IsCall settings d → IsRead → (r : Refusal) → RecordRefusedWhen (laidOut d) r → CallRefusedWhen r
   by-record c a FieldTooLong w = (c, a, w)
@@ -90,6 +92,7 @@ module _ (t : List ℕ) (settings : ℕ) (d : List ℕ) (room : ℕ) where
   by-record c a HalfEscape w = absurd w
   by-record c a (LineTooLong n) w = absurd w
   by-record c a NotASheet w = absurd w
+  by-record c a (Dropped p) w = absurd w
 
   in-room : HasLine → (x : List ℕ) → CallWhen (inRoom room x)
   unfolding inRoom
@@ -99,61 +102,69 @@ module _ (t : List ℕ) (settings : ℕ) (d : List ℕ) (room : ℕ) where
       by true = a
       by false = a
 
-  checked : IsCall settings d → (s : LogSegments) → readTemplate t ≡ read s → (m : Maybe Refusal) → recordRefusal (laidOut d) ≡ m
+  checked : IsCall settings d → (s : LogSegments) → readBy (editionOf settings) t ≡ read s → (m : Maybe Refusal) → recordRefusal (laidOut d) ≡ m
       → CallWhen (passed (settingsOf settings) t s (laidOut d) room m)
   unfolding passed
   checked c s e none k = in-room (s, record { call = c; template = e; passes = passes-when (laidOut d) .0 k }) _
-  checked c s e (some r) k = by-record c (s, accepted t s .0 e) r (records.refused-when (laidOut d) r k)
+  checked c s e (some r) k = by-record c (s, accepted (editionOf settings) t s .0 e) r (records.refused-when (laidOut d) r k)
 
-  tried : IsCall settings d → (x : Template) → readTemplate t ≡ x → CallWhen (byTemplate (settingsOf settings) t (laidOut d) room x)
+  tried : IsCall settings d → (x : Template) → readBy (editionOf settings) t ≡ x → CallWhen (byTemplate (settingsOf settings) t (laidOut d) room x)
   unfolding byTemplate recordOutcome
   tried c (read s) e = checked c s e (recordRefusal (laidOut d)) refl
-  tried c (refusal r) e = by-template c r (refused-when t r e)
+  tried c (refusal r) e = by-template c r (refused-when (editionOf settings) t r e)
 
-  no-call : (b : Bool) → ltb settings 4 ≡ b → (b && rightSize d) ≡ false → NoCall settings d
+  no-call : (b : Bool) → ltb settings 8 ≡ b → (b && rightSize d) ≡ false → NoCall settings d
   no-call true e k = inr k
-  no-call false e k = inl (ltb-false settings 4 e)
+  no-call false e k = inl (ltb-false settings 8 e)
 
   call-when : CallWhen (callOutcome settings t d room)
-  unfolding callOutcome isCall outcome
+  unfolding callOutcome isCall isKnown outcome
   call-when = by (isCall settings d) refl
     where
       by : (b : Bool) → isCall settings d ≡ b
-          → CallWhen (elim b [ true ↦ outcome (settingsOf settings) t (laidOut d) room | false ↦ refused NotASheet ])
-      by true e = let c = both-true (ltb settings 4) (rightSize d) e in tried (ltb-true settings 4 (c .0), c .1) (readTemplate t) refl
-      by false e = no-call (ltb settings 4) refl e
+          → CallWhen (elim b [ true ↦ outcome (editionOf settings) (settingsOf settings) t (laidOut d) room | false ↦ refused NotASheet ])
+      by true e = let c = both-true (ltb settings 8) (rightSize d) e in tried (ltb-true settings 8 (c .0), c .1) (readBy (editionOf settings) t) refl
+      by false e = no-call (ltb settings 8) refl e
 
   -- ---- and nothing else does
 
-  called : IsCall settings d → callOutcome settings t d room ≡ outcome (settingsOf settings) t (laidOut d) room
-  called c = sym (is-call settings t d room (c .0) (c .1))
+  known : settings < 8 → isKnown settings ≡ true
+  unfolding isKnown
+  known h = lt-ltb settings 8 h
+
+  unknown : 8 ≤ settings → isKnown settings ≡ false
+  unfolding isKnown
+  unknown h = le-ltb settings 8 h
+
+  called : IsCall settings d → callOutcome settings t d room ≡ outcome (editionOf settings) (settingsOf settings) t (laidOut d) room
+  called c = sym (is-call settings t d room (known (c .0)) (c .1))
 
   pub accepted-call : (s : LogSegments) → AcceptedCall t settings d s → callOutcome settings t d room ≡ inRoom room (callLine t settings d s)
   accepted-call s a =
       called (a .call)
-      ∙ sym (read-outcome (settingsOf settings) t (laidOut d) room s (a .template))
+      ∙ sym (read-outcome (editionOf settings) (settingsOf settings) t (laidOut d) room s (a .template))
       ∙ passed-outcome (settingsOf settings) t s (laidOut d) room (passes-when (laidOut d) .1 (a .passes))
 
-  template-refused : (r : Refusal) → IsCall settings d → RefusedWhen t r → callOutcome settings t d room ≡ refused r
-  template-refused r c w = called c ∙ sym (unread-outcome (settingsOf settings) t (laidOut d) room r (only-refused t r w))
+  template-refused : (r : Refusal) → IsCall settings d → RefusedWhen (editionOf settings) t r → callOutcome settings t d room ≡ refused r
+  template-refused r c w = called c ∙ sym (unread-outcome (editionOf settings) (settingsOf settings) t (laidOut d) room r (only-refused (editionOf settings) t r w))
 
   record-refused : (r : Refusal) → IsCall settings d → IsRead → RecordRefusedWhen (laidOut d) r → callOutcome settings t d room ≡ refused r
   record-refused r c a w =
       called c
-      ∙ sym (read-outcome (settingsOf settings) t (laidOut d) room (a .0) (accepted t (a .0) .1 (a .1)))
+      ∙ sym (read-outcome (editionOf settings) (settingsOf settings) t (laidOut d) room (a .0) (accepted (editionOf settings) t (a .0) .1 (a .1)))
       ∙ refused-outcome (settingsOf settings) t (a .0) (laidOut d) room r (records.only-refused (laidOut d) r w)
 
   not-called : NoCall settings d → callOutcome settings t d room ≡ refused NotASheet
-  not-called (inl h) = sym (unknown-bit settings t d room h)
-  not-called (inr e) = by (ltb settings 4) refl
+  not-called (inl h) = sym (unknown-bit settings t d room (unknown h))
+  not-called (inr e) = by (isKnown settings) refl
     where
-      by : (b : Bool) → ltb settings 4 ≡ b → callOutcome settings t d room ≡ refused NotASheet
-      by true k = sym (wrong-size settings t d room (ltb-true settings 4 k) e)
-      by false k = sym (unknown-bit settings t d room (ltb-false settings 4 k))
+      by : (b : Bool) → isKnown settings ≡ b → callOutcome settings t d room ≡ refused NotASheet
+      by true k = sym (wrong-size settings t d room k e)
+      by false k = sym (unknown-bit settings t d room k)
 
   -- ---- the numbers
 
-  is : (r : Refusal) → (number r ≡ 13 → ⊥) → (CallRefusedWhen r → callOutcome settings t d room ≡ refused r)
+  is : (r : Refusal) → Alone r → (CallRefusedWhen r → callOutcome settings t d room ≡ refused r)
       → (numberOf (callOutcome settings t d room) ≡ number r) ↔ CallRefusedWhen r
   is r h only = numbered CallWhen (callOutcome settings t d room) call-when numberOf (refused r) (refused-of (callOutcome settings t d room) r h) only
 
@@ -176,6 +187,13 @@ module _ (t : List ℕ) (settings : ℕ) (d : List ℕ) (room : ℕ) where
     (λ w. ap numberOf (accepted-call (w .0) (w .1)) ∙ room-none room _ .1 (w .2)),
   )
 
+  -- what is dropped
+  drops : numberOf (callOutcome settings t d room) ≡ 17 → IsCall settings d × ((p : ℕ) × Drops (editionOf settings) t p)
+  drops e = let w = subst CallWhen (dropped-of (callOutcome settings t d room) e) call-when in (w .0, (_, w .1))
+
+  dropped-call : IsCall settings d → (p : ℕ) → Drops (editionOf settings) t p → callOutcome settings t d room ≡ refused (Dropped p)
+  dropped-call c p w = template-refused (Dropped p) c w
+
 -- ---- the demand
 
 pub call-demand1 : (t : List ℕ) (settings : ℕ) (d lent : List ℕ) → CallDemand1 t settings d lent
@@ -195,6 +213,11 @@ call-demand1 t settings d lent =
       is-9 = by HalfEscape (omega arith) (λ w. temp HalfEscape (w .0) (w .1));
       never-10 = never-ten (lineEntry t settings d lent);
       is-4 = by NoMessage (omega arith) (λ w. temp NoMessage (w .0) (w .1));
+      is-17 = (drops t settings d (length lent), λ w. ap numberOf (dropped-call t settings d (length lent) (w .0) (w .1 .0) (w .1 .1)));
+      place = λ c p w left answer m.
+          length-told (lineEntry t settings d lent) lent left answer m
+          ∙ ap lengthOf (dropped-call t settings d (length lent) c p w)
+          ∙ dropped-told p;
       is-14 = by NotARecord (omega arith) (λ w. rec NotARecord (w .0) (w .1) (w .2));
       is-11 = by FieldTooLong (omega arith) (λ w. rec FieldTooLong (w .0) (w .1) (w .2));
       is-12 = by FieldNotUtf8 (omega arith) (λ w. rec FieldNotUtf8 (w .0) (w .1) (w .2));

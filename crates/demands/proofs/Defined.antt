@@ -4,17 +4,16 @@ use mathlib.Core.Path.{_≡_, refl, ap, sym, _∙_}
 use mathlib.Core.Bool.{Bool, true, false, _&&_}
 use mathlib.Core.List.{List, [], _∷_, _++_}
 use native.Mathlib.Omega.{arith}
-use lib.Dec.{eqb, leb, ltb}
+use lib.Dec.{eqb, leb}
 use lib.ListN.{length, take, drop}
-use borrow.Author.Tests.{ltb-true}
 use Rattle.buffer.proofs.Sameness.{both-true}
 use Rattle.buffer.specs.Buffer.{putAt}
 use Rattle.buffer.specs.Table.{Maybe, none, some}
 use Rattle.buffer.proofs.Writing.{put-take, put-drop}
 use Rattle.segments.specs.Segments.{LogSegments}
-use Rattle.template.specs.Template.{read, readTemplate}
+use Rattle.template.specs.Template.{read, readBy}
 use Rattle.record.specs.Layout.{rightSize, laidOut}
-use Rattle.settings.specs.Bits.{settingsOf}
+use Rattle.settings.specs.Bits.{isKnown, settingsOf, editionOf}
 use Rattle.sheet.specs.Sheets.{Sheet, bodyCount, contentsEnd, bodyBytes, bodies, isHead, areRecords, areBodies, isSheet, allLaidOut, headed, held, sheetOf}
 use Rattle.answer.specs.Answers.{Outcome, line, inRoom, recordOutcome, bufferAfter, callOutcome, Meets, lineEntry}
 use Rattle.answer.proofs.Answering.{is-call, read-outcome}
@@ -64,9 +63,9 @@ call-demand2 t settings d lent =
 laid : ℕ → List ℕ → List (List ℕ) → Sheet
 laid settings t records = record { settings = settings; template = t; records = allLaidOut records }
 
-module _ (settings : ℕ) (t : List ℕ) (s : LogSegments) (four : ltb settings 4 ≡ true) (e : readTemplate t ≡ read s) where
+module _ (settings : ℕ) (t : List ℕ) (s : LogSegments) (known : isKnown settings ≡ true) (e : readBy (editionOf settings) t ≡ read s) where
   one-line : (d : List ℕ) → rightSize d ≡ true → recordOutcome (settingsOf settings) t s (laidOut d) 65536 ≡ callOutcome settings t d 65536
-  one-line d h = read-outcome (settingsOf settings) t (laidOut d) 65536 s e ∙ is-call settings t d 65536 (ltb-true settings 4 four) h
+  one-line d h = read-outcome (editionOf settings) (settingsOf settings) t (laidOut d) 65536 s e ∙ is-call settings t d 65536 known h
 
   lines : (h : Sheet) → h .settings ≡ settings → h .template ≡ t → (records : List (List ℕ)) → areRecords records ≡ true
       → recordLines h s (allLaidOut records) ≡ callLines settings t records
@@ -99,7 +98,7 @@ module _ (d : List ℕ) where
   defined : (settings : ℕ) (t : List ℕ) (records : List (List ℕ)) → SheetBodies d settings t records → sessionText d ≡ line (callLines settings t records)
   unfolding sessionText maybeSheetText sheetText laid areBodies isHead
   defined settings t records w =
-      let k = both-true (ltb settings 4) (areRecords records) (sym (ap areBodies (w .laid)) ∙ sheet-bodies d (w .sheet)) in
+      let k = both-true (isKnown settings) (areRecords records) (sym (ap areBodies (w .laid)) ∙ sheet-bodies d (w .sheet)) in
       ap maybeSheetText (sheet-is (w .sheet) ∙ ap some (held-is settings t records (w .laid)))
       ∙ ap (sheetText (laid settings t records)) (w .template)
       ∙ ap line (lines settings t (w .segments) (k .0) (w .template) (laid settings t records) refl refl records (k .1))
@@ -121,8 +120,8 @@ module _ (d : List ℕ) where
   found h s a =
       let k = some-sheet (isSheet d) (held (bodies d)) h (a .sheet) in
       let b = shape (bodies d) (sheet-bodies d (k .0)) in
-      let e : h .template ≡ b .1 = ap (λ (x : Sheet). x .template) (sym (k .1) ∙ held-is (b .0) (b .1) (b .2) (b .3)) in
-      (b .0, b .1, b .2, record { sheet = k .0; laid = b .3; segments = s; template = ap readTemplate (sym e) ∙ a .template })
+      let e : laid (b .0) (b .1) (b .2) ≡ h = sym (held-is (b .0) (b .1) (b .2) (b .3)) ∙ k .1 in
+      (b .0, b .1, b .2, record { sheet = k .0; laid = b .3; segments = s; template = ap (λ (x : Sheet). readBy (editionOf (x .settings)) (x .template)) e ∙ a .template })
 
 pub session-demand2 : (d lent : List ℕ) → SessionDemand2 d lent
 unfolding sessionOutcome fitting

@@ -2,12 +2,14 @@ pub mod Calls
 pub mod Defined
 pub mod Holds
 pub mod Letters
+pub mod Firsts
 pub mod Numbers
 pub mod OfLines
 pub mod Quiet
 pub mod Records
 pub mod Sharp
 pub mod Sheets
+pub mod Strictly
 pub mod Templates
 pub mod TwoCalls
 pub mod VisibleText

@@ -9,8 +9,8 @@ use lib.Dec.{leb}
 use lib.ListN.{length, getD}
 use borrow.Author.Tests.{leb-true, leb-false, le-leb, lt-leb}
 use Rattle.refusals.specs.declared.Refusal.{Refusal}
-use Rattle.refusals.specs.declared.Refusal.the-variants.{TemplateTooLong, TemplateNotUtf8, Failure, NoMessage, TooManySegments, TooDeep, TooWide, TooManyF, HalfEscape, FieldTooLong, FieldNotUtf8, LineTooLong, NotARecord, NotASheet}
-use Rattle.refusals.specs.Numbers.{number, lengthWith}
+use Rattle.refusals.specs.declared.Refusal.the-variants.{TemplateTooLong, TemplateNotUtf8, Failure, NoMessage, TooManySegments, TooDeep, TooWide, TooManyF, HalfEscape, FieldTooLong, FieldNotUtf8, LineTooLong, NotARecord, NotASheet, Dropped}
+use Rattle.refusals.specs.Numbers.{number, valueWith}
 use Rattle.builtin.specs.declared.Style.{Style}
 use Rattle.builtin.specs.Builtins.{builtinText}
 use Rattle.answer.specs.Answers.{Outcome, line, refused, inRoom, bufferAfter, packed, Meets}
@@ -18,7 +18,7 @@ use Rattle.demands.specs.Demand1.{numberOf, Returns, builtinEntry, Built
 
 -- ---- numbers
 
-pub numbers : (r : Refusal) → (1 ≤ number r) × (number r ≤ 15) × (number r ≡ 10 → ⊥)
+pub numbers : (r : Refusal) → (1 ≤ number r) × (number r ≤ 17) × (number r ≡ 10 → ⊥) × (number r ≡ 16 → ⊥)
 numbers TemplateTooLong = omega arith
 numbers TemplateNotUtf8 = omega arith
 numbers Failure = omega arith
@@ -33,8 +33,9 @@ numbers FieldNotUtf8 = omega arith
 numbers (LineTooLong n) = omega arith
 numbers NotARecord = omega arith
 numbers NotASheet = omega arith
+numbers (Dropped p) = omega arith
 
--- the refusal with a number, and with the length that it tells (none has 0 or 10)
+-- the refusal with a number, and with the length or place that it tells (none has 0, 10 or 16)
 refusalAt : ℕ → ℕ → Refusal
 refusalAt k n =
     getD
@@ -53,10 +54,13 @@ refusalAt k n =
     ∷ FieldNotUtf8
     ∷ LineTooLong n
     ∷ NotARecord
+    ∷ NotASheet
+    ∷ NotASheet
+    ∷ Dropped n
     ∷ [])
     k NotASheet
 
-by-number : (r : Refusal) → refusalAt (number r) (lengthWith r) ≡ r
+by-number : (r : Refusal) → refusalAt (number r) (valueWith r) ≡ r
 unfolding refusalAt
 by-number TemplateTooLong = refl
 by-number TemplateNotUtf8 = refl
@@ -72,44 +76,46 @@ by-number FieldNotUtf8 = refl
 by-number (LineTooLong n) = refl
 by-number NotARecord = refl
 by-number NotASheet = refl
+by-number (Dropped p) = refl
 
--- only 13 tells a length
-abbrev Lengthless : Refusal → Type 0
-Lengthless r = number r ≡ 13 → ⊥
+-- only 13 tells a length, and 17 a place
+abbrev pub Alone : Refusal → Type 0
+Alone r = (number r ≡ 13 → ⊥) × (number r ≡ 17 → ⊥)
 
-lengthless : (r : Refusal) → Lengthless r → lengthWith r ≡ 0
-lengthless TemplateTooLong h = refl
-lengthless TemplateNotUtf8 h = refl
-lengthless Failure h = refl
-lengthless NoMessage h = refl
-lengthless TooManySegments h = refl
-lengthless TooDeep h = refl
-lengthless TooWide h = refl
-lengthless TooManyF h = refl
-lengthless HalfEscape h = refl
-lengthless FieldTooLong h = refl
-lengthless FieldNotUtf8 h = refl
-lengthless (LineTooLong n) h = absurd (h refl)
-lengthless NotARecord h = refl
-lengthless NotASheet h = refl
+alone : (r : Refusal) → Alone r → valueWith r ≡ 0
+alone TemplateTooLong h = refl
+alone TemplateNotUtf8 h = refl
+alone Failure h = refl
+alone NoMessage h = refl
+alone TooManySegments h = refl
+alone TooDeep h = refl
+alone TooWide h = refl
+alone TooManyF h = refl
+alone HalfEscape h = refl
+alone FieldTooLong h = refl
+alone FieldNotUtf8 h = refl
+alone (LineTooLong n) h = absurd (h .0 refl)
+alone NotARecord h = refl
+alone NotASheet h = refl
+alone (Dropped p) h = absurd (h .1 refl)
 
--- two refusals with one number are one, but for the length told
-pub one-number : (q r : Refusal) → number q ≡ number r → lengthWith q ≡ lengthWith r → q ≡ r
+-- two refusals with one number are one, but for what is told besides
+pub one-number : (q r : Refusal) → number q ≡ number r → valueWith q ≡ valueWith r → q ≡ r
 one-number q r e l = sym (by-number q) ∙ (λ i. refusalAt (e i) (l i)) ∙ by-number r
 
-pub one-refusal : (q r : Refusal) → Lengthless r → number q ≡ number r → q ≡ r
-one-refusal q r h e = one-number q r e (lengthless q (λ k. h (sym e ∙ k)) ∙ sym (lengthless r h))
+pub one-refusal : (q r : Refusal) → Alone r → number q ≡ number r → q ≡ r
+one-refusal q r h e = one-number q r e (alone q ((λ k. h .0 (sym e ∙ k)), (λ k. h .1 (sym e ∙ k))) ∙ sym (alone r h))
 
 -- ---- outcomes
 
-pub refused-of : (o : Outcome) (r : Refusal) → Lengthless r → numberOf o ≡ number r → o ≡ refused r
+pub refused-of : (o : Outcome) (r : Refusal) → Alone r → numberOf o ≡ number r → o ≡ refused r
 refused-of (line s) r h e = let z : ⊥ = omega (arith, numbers r, e) in absurd z
 refused-of (refused q) r h e = ap refused (one-refusal q r h e)
 
 -- what the outcome tells besides its number
 pub lengthOf : Outcome → ℕ
 lengthOf (line s) = length s
-lengthOf (refused r) = lengthWith r
+lengthOf (refused r) = valueWith r
 
 pub line-of : (o : Outcome) → numberOf o ≡ 0 → (x : List ℕ) × (o ≡ line x)
 line-of (line s) e = (s, refl)
@@ -118,13 +124,26 @@ line-of (refused r) e = let z : ⊥ = omega (arith, numbers r, e) in absurd z
 pub too-long-of : (o : Outcome) → numberOf o ≡ 13 → o ≡ refused (LineTooLong (lengthOf o))
 unfolding lengthOf
 too-long-of (line s) e = let z : ⊥ = omega arith in absurd z
-too-long-of (refused r) e = ap refused (one-number r (LineTooLong (lengthWith r)) e refl)
+too-long-of (refused r) e = ap refused (one-number r (LineTooLong (valueWith r)) e refl)
+
+pub dropped-of : (o : Outcome) → numberOf o ≡ 17 → o ≡ refused (Dropped (lengthOf o))
+unfolding lengthOf
+dropped-of (line s) e = let z : ⊥ = omega arith in absurd z
+dropped-of (refused r) e = ap refused (one-number r (Dropped (valueWith r)) e refl)
+
+pub dropped-told : (p : ℕ) → lengthOf (refused (Dropped p)) ≡ p
+unfolding lengthOf
+dropped-told p = refl
 
 pub never-ten : (o : Outcome) → numberOf o ≡ 10 → ⊥
 never-ten (line s) e = omega arith
 never-ten (refused r) e = numbers r .2 e
 
-packs : (o : Outcome) → (packed o ≡ numberOf o + 256 * lengthOf o) × (numberOf o ≤ 15)
+never-sixteen : (o : Outcome) → numberOf o ≡ 16 → ⊥
+never-sixteen (line s) e = omega arith
+never-sixteen (refused r) e = numbers r .3 e
+
+packs : (o : Outcome) → (packed o ≡ numberOf o + 256 * lengthOf o) × (numberOf o ≤ 17)
 unfolding packed lengthOf
 packs (line s) = (omega arith, omega arith)
 packs (refused r) = (refl, numbers r .1)
@@ -135,11 +154,11 @@ number-told o lent left answer m = omega (arith, packs o, m .returned)
 pub length-told : (o : Outcome) (lent left : List ℕ) (answer : ℕ) → Meets o lent left answer → answer / 256 ≡ lengthOf o
 length-told o lent left answer m = omega (arith, packs o, m .returned)
 
--- what is refused tells no length but for 13, and leaves the buffer alone
-no-length : (o : Outcome) → (numberOf o ≡ 0 → ⊥) → (numberOf o ≡ 13 → ⊥) → lengthOf o ≡ 0
+-- what is refused tells nothing besides but for 13 and 17, and leaves the buffer as it is
+no-length : (o : Outcome) → (numberOf o ≡ 0 → ⊥) → (numberOf o ≡ 13 → ⊥) → (numberOf o ≡ 17 → ⊥) → lengthOf o ≡ 0
 unfolding lengthOf
-no-length (line s) h g = absurd (h refl)
-no-length (refused r) h g = lengthless r g
+no-length (line s) h g k = absurd (h refl)
+no-length (refused r) h g k = alone r (g, k)
 
 unchanged : (o : Outcome) (lent : List ℕ) → (numberOf o ≡ 0 → ⊥) → bufferAfter lent o ≡ lent
 unfolding bufferAfter
@@ -148,11 +167,11 @@ unchanged (refused r) lent h = refl
 
 pub returns : (o : Outcome) (lent : List ℕ) → Returns o lent
 returns o lent = record {
-  numbered = (packs o .1, never-ten o);
+  numbered = (packs o .1, never-ten o, never-sixteen o);
   told = number-told o lent;
-  no-length = λ left answer m h g.
+  no-length = λ left answer m h g f.
       let e = number-told o lent left answer m in
-      length-told o lent left answer m ∙ no-length o (λ k. h (e ∙ k)) (λ k. g (e ∙ k));
+      length-told o lent left answer m ∙ no-length o (λ k. h (e ∙ k)) (λ k. g (e ∙ k)) (λ k. f (e ∙ k));
   untouched = λ left answer m h. m .buffer ∙ unchanged o lent (λ k. h (number-told o lent left answer m ∙ k));
 }
 

@@ -12,7 +12,7 @@ use Rattle.buffer.proofs.Sameness.{both-true}
 use Rattle.buffer.specs.Table.{Maybe, none, some}
 use Rattle.utf8.specs.Utf8.{valid}
 use Rattle.refusals.specs.declared.Refusal.{Refusal}
-use Rattle.refusals.specs.declared.Refusal.the-variants.{TemplateTooLong, TemplateNotUtf8, Failure, NoMessage, TooManySegments, TooDeep, TooWide, TooManyF, HalfEscape, FieldTooLong, FieldNotUtf8, LineTooLong, NotARecord, NotASheet}
+use Rattle.refusals.specs.declared.Refusal.the-variants.{TemplateTooLong, TemplateNotUtf8, Failure, NoMessage, TooManySegments, TooDeep, TooWide, TooManyF, HalfEscape, FieldTooLong, FieldNotUtf8, LineTooLong, NotARecord, NotASheet, Dropped}
 use Rattle.refusals.specs.Numbers.{number}
 use Rattle.record.specs.Layout.{Laid}
 use Rattle.record.specs.Contents.{hasFile, hasLine, hasModule}
@@ -138,6 +138,7 @@ FieldsWhen l (some FieldNotUtf8) = First FieldBroken l
 FieldsWhen l (some (LineTooLong n)) = ⊥
 FieldsWhen l (some NotARecord) = ⊥
 FieldsWhen l (some NotASheet) = ⊥
+FieldsWhen l (some (Dropped p)) = ⊥
 
 further : (x : List ℕ) (rest : List (List ℕ)) → FieldPasses x → (m : Maybe Refusal) → FieldsWhen rest m → FieldsWhen (x ∷ rest) m
 further x rest p none w = (p, w)
@@ -155,6 +156,7 @@ further x rest p (some HalfEscape) w = w
 further x rest p (some (LineTooLong n)) w = w
 further x rest p (some NotARecord) w = w
 further x rest p (some NotASheet) w = w
+further x rest p (some (Dropped q)) w = w
 
 -- one field and what is said of those behind it
 field-when : (x : List ℕ) (rest : List (List ℕ)) (m : Maybe Refusal) → FieldsWhen rest m → FieldsWhen (x ∷ rest) (orNext (fieldRefusal x) λ _. m)
@@ -222,6 +224,7 @@ RecordRefusedWhen d FieldNotUtf8 = RecordBroken d
 RecordRefusedWhen d (LineTooLong n) = ⊥
 RecordRefusedWhen d NotARecord = BadlyMarked d
 RecordRefusedWhen d NotASheet = ⊥
+RecordRefusedWhen d (Dropped p) = ⊥
 
 abbrev When : Laid → Maybe Refusal → Type 0
 When d none = RecordPasses d
@@ -244,6 +247,7 @@ module _ (d : Laid) where
   well-marked h (some (LineTooLong n)) w = w
   well-marked h (some NotARecord) w = absurd w
   well-marked h (some NotASheet) w = w
+  well-marked h (some (Dropped p)) w = w
 
   record-when : When d (recordRefusal d)
   unfolding recordRefusal
@@ -273,6 +277,7 @@ module _ (d : Laid) where
   only-refused HalfEscape w = absurd w
   only-refused (LineTooLong n) w = absurd w
   only-refused NotASheet w = absurd w
+  only-refused (Dropped p) w = absurd w
 
   only : (m : Maybe Refusal) → When d m → recordRefusal d ≡ m
   only none w = checked (w .0) ∙ only-pass (fieldsOf d) (w .1)
@@ -293,6 +298,7 @@ module _ (d : Laid) where
   three HalfEscape w = absurd w
   three (LineTooLong n) w = absurd w
   three NotASheet w = absurd w
+  three (Dropped p) w = absurd w
 
   -- ---- the demand
 

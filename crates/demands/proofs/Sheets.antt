@@ -10,15 +10,16 @@ use lib.ListN.{length}
 use borrow.Author.Tests.{leb-false, lt-leb, eqb-false, ne-eqb}
 use Rattle.buffer.specs.Table.{Maybe, none, some}
 use Rattle.refusals.specs.declared.Refusal.{Refusal}
-use Rattle.refusals.specs.declared.Refusal.the-variants.{TemplateTooLong, TemplateNotUtf8, Failure, NoMessage, TooManySegments, TooDeep, TooWide, TooManyF, HalfEscape, FieldTooLong, FieldNotUtf8, LineTooLong, NotARecord, NotASheet}
+use Rattle.refusals.specs.declared.Refusal.the-variants.{TemplateTooLong, TemplateNotUtf8, Failure, NoMessage, TooManySegments, TooDeep, TooWide, TooManyF, HalfEscape, FieldTooLong, FieldNotUtf8, LineTooLong, NotARecord, NotASheet, Dropped}
 use Rattle.refusals.specs.Numbers.{number}
 use Rattle.segments.specs.Segments.{LogSegments}
-use Rattle.template.specs.Template.{Template, read, refusal, readTemplate}
+use Rattle.template.specs.Template.{Template, read, refusal, readBy}
+use Rattle.settings.specs.Bits.{editionOf}
 use Rattle.sheet.specs.Sheets.{Sheet, bodyCount, contentsEnd, bodyBytes, bodies, isSheet, held, sheetOf}
 use Rattle.answer.specs.Answers.{Outcome, line, refused, inRoom}
 use Rattle.outcomes.specs.Program.{recordLines, sheetText, maybeSheetText, sessionText, fitting, sessionOutcome, sessionEntry}
-use Rattle.demands.specs.Demand1.{numberOf, NoSheet, SheetDemand1, SheetWhose, AcceptedSheet, SessionDemand1}
-use Rattle.demands.proofs.Numbers.{refused-of, line-of, too-long-of, never-ten, length-told, lengthOf, returns, room-line, room-none, room-length, numbered}
+use Rattle.demands.specs.Demand1.{numberOf, NoSheet, SheetDemand1, SheetDrops, AcceptedSheet, SessionDemand1}
+use Rattle.demands.proofs.Numbers.{Alone, refused-of, line-of, too-long-of, dropped-of, dropped-told, never-ten, length-told, lengthOf, returns, room-line, room-none, room-length, numbered}
 use Rattle.demands.proofs.Templates.{RefusedWhen, refused-when, only-refused}
 
 -- ---- what is no sheet
@@ -90,7 +91,7 @@ module _ (d : List ℕ) (room : ℕ) where
 
   -- its template is refused with r
   abbrev Unread : Refusal → Type 0
-  Unread r = SheetWhose d λ t. RefusedWhen t r
+  Unread r = (h : Sheet) × (sheetOf d ≡ some h) × RefusedWhen (editionOf (h .settings)) (h .template) r
 
   abbrev SessionRefusedWhen : Refusal → Type 0
   SessionRefusedWhen TemplateTooLong = Unread TemplateTooLong
@@ -107,6 +108,7 @@ module _ (d : List ℕ) (room : ℕ) where
   SessionRefusedWhen (LineTooLong n) = HasLines
   SessionRefusedWhen NotARecord = ⊥
   SessionRefusedWhen NotASheet = NoSheet d
+  SessionRefusedWhen (Dropped p) = Unread (Dropped p)
 
   abbrev SessionWhen : Outcome → Type 0
   SessionWhen (line x) = HasLines
@@ -129,6 +131,7 @@ module _ (d : List ℕ) (room : ℕ) where
   by-template (LineTooLong n) w = absurd (w .2)
   by-template NotARecord w = w .2
   by-template NotASheet w = absurd (w .2)
+  by-template (Dropped p) w = w
 
   in-room : HasLines → (x : List ℕ) → SessionWhen (inRoom room x)
   unfolding inRoom
@@ -138,15 +141,15 @@ module _ (d : List ℕ) (room : ℕ) where
       by true = a
       by false = a
 
-  tried : (h : Sheet) → sheetOf d ≡ some h → (x : Template) → readTemplate (h .template) ≡ x → SessionWhen (fitting room (sheetText h x))
+  tried : (h : Sheet) → sheetOf d ≡ some h → (x : Template) → readBy (editionOf (h .settings)) (h .template) ≡ x → SessionWhen (fitting room (sheetText h x))
   unfolding fitting sheetText
   tried h e (read s) k = in-room (h, s, record { sheet = e; template = k }) _
-  tried h e (refusal r) k = by-template r (h, e, refused-when (h .template) r k)
+  tried h e (refusal r) k = by-template r (h, e, refused-when (editionOf (h .settings)) (h .template) r k)
 
   opened : (m : Maybe Sheet) → sheetOf d ≡ m → SessionWhen (fitting room (maybeSheetText m))
   unfolding fitting maybeSheetText
   opened none e = none-when d .0 e
-  opened (some h) e = tried h e (readTemplate (h .template)) refl
+  opened (some h) e = tried h e (readBy (editionOf (h .settings)) (h .template)) refl
 
   session-when : SessionWhen (sessionOutcome d room)
   unfolding sessionOutcome sessionText
@@ -154,7 +157,7 @@ module _ (d : List ℕ) (room : ℕ) where
 
   -- ---- and nothing else does
 
-  is-sheet : (h : Sheet) → sheetOf d ≡ some h → sessionOutcome d room ≡ fitting room (sheetText h (readTemplate (h .template)))
+  is-sheet : (h : Sheet) → sheetOf d ≡ some h → sessionOutcome d room ≡ fitting room (sheetText h (readBy (editionOf (h .settings)) (h .template)))
   unfolding sessionOutcome sessionText maybeSheetText
   is-sheet h e = ap (λ (m : Maybe Sheet). fitting room (maybeSheetText m)) e
 
@@ -164,7 +167,7 @@ module _ (d : List ℕ) (room : ℕ) where
 
   template-refused : (r : Refusal) → Unread r → sessionOutcome d room ≡ refused r
   unfolding sheetText fitting
-  template-refused r w = is-sheet (w .0) (w .1) ∙ ap (λ (x : Template). fitting room (sheetText (w .0) x)) (only-refused (w .0 .template) r (w .2))
+  template-refused r w = is-sheet (w .0) (w .1) ∙ ap (λ (x : Template). fitting room (sheetText (w .0) x)) (only-refused (editionOf (w .0 .settings)) (w .0 .template) r (w .2))
 
   not-sheet : NoSheet d → sessionOutcome d room ≡ refused NotASheet
   unfolding sessionOutcome sessionText maybeSheetText fitting
@@ -172,7 +175,7 @@ module _ (d : List ℕ) (room : ℕ) where
 
   -- ---- the numbers
 
-  is : (r : Refusal) → (number r ≡ 13 → ⊥) → (SessionRefusedWhen r → sessionOutcome d room ≡ refused r)
+  is : (r : Refusal) → Alone r → (SessionRefusedWhen r → sessionOutcome d room ≡ refused r)
       → (numberOf (sessionOutcome d room) ≡ number r) ↔ SessionRefusedWhen r
   is r h only = numbered SessionWhen (sessionOutcome d room) session-when numberOf (refused r) (refused-of (sessionOutcome d room) r h) only
 
@@ -195,6 +198,13 @@ module _ (d : List ℕ) (room : ℕ) where
     (λ w. ap numberOf (accepted-sheet (w .0) (w .1) (w .2)) ∙ room-none room _ .1 (w .3)),
   )
 
+  -- what is dropped
+  drops : numberOf (sessionOutcome d room) ≡ 17 → (p : ℕ) × SheetDrops d p
+  drops e = (_, subst SessionWhen (dropped-of (sessionOutcome d room) e) session-when)
+
+  dropped-sheet : (p : ℕ) → SheetDrops d p → sessionOutcome d room ≡ refused (Dropped p)
+  dropped-sheet p w = template-refused (Dropped p) w
+
 -- ---- the demand
 
 pub session-demand1 : (d lent : List ℕ) → SessionDemand1 d lent
@@ -213,6 +223,11 @@ session-demand1 d lent =
       is-9 = by HalfEscape (omega arith) (unread HalfEscape);
       never-10 = never-ten (sessionEntry d lent);
       is-4 = by NoMessage (omega arith) (unread NoMessage);
+      is-17 = (drops d (length lent), λ w. ap numberOf (dropped-sheet d (length lent) (w .0) (w .1)));
+      place = λ p w left answer m.
+          length-told (sessionEntry d lent) lent left answer m
+          ∙ ap lengthOf (dropped-sheet d (length lent) p w)
+          ∙ dropped-told p;
       never-14 = λ e. by NotARecord (omega arith) (λ w. absurd w) .0 e;
       never-11 = λ e. by FieldTooLong (omega arith) (λ w. absurd w) .0 e;
       never-12 = λ e. by FieldNotUtf8 (omega arith) (λ w. absurd w) .0 e;

@@ -1,6 +1,6 @@
 -- Demand 3 holds of line calls. Assumes nothing.
 use Prim.Native.Nat.{ℕ, _/_}
-use mathlib.Core.Path.{_≡_, refl, ap, sym, subst, _∙_}
+use mathlib.Core.Path.{_≡_, ap, sym, subst, _∙_}
 use mathlib.Core.List.{List}
 use mathlib.Core.Logic.{inl, inr}
 use lib.ListN.{take}
@@ -9,32 +9,46 @@ use Rattle.colour.specs.Modes.{off, plain, straight, coloured}
 use Rattle.colour.specs.Sequences.{visible}
 use Rattle.colour.specs.Texts.{Eachs}
 use Rattle.segments.specs.Segments.{LogSegments}
-use Rattle.template.specs.Template.{read, readTemplate}
+use Rattle.letters.specs.Marked.{marked}
+use Rattle.unused.specs.Unused.{firstOf, unusedIn}
+use Rattle.template.specs.declared.Edition.{Edition}
+use Rattle.template.specs.Template.{read, readTemplate, readBy}
+use Rattle.template.proofs.Refusing.{used-read}
 use Rattle.record.specs.Layout.{laidOut}
 use Rattle.record.specs.Records.{Record}
 use Rattle.record.specs.Contents.{recordOf}
 use Rattle.fields.specs.Lines.{lineOf}
-use Rattle.settings.specs.Bits.{settingsOf}
+use Rattle.settings.specs.Bits.{settingsOf, editionOf}
 use Rattle.demands.specs.Demand3.{Fills, FallsShort}
 use Rattle.demands.specs.Lines.{FreeSegments, FreeRecord}
-use Rattle.demands.specs.CallDemand3.{Colourless, Answered, shownBy, MadeOf, CallDemand3}
+use Rattle.demands.specs.CallDemand3.{Colourless, Straight, Coloured, Answered, shownBy, MadeOf, CallDemand3}
 use Rattle.demands.proofs.Defined.{call-demand2}
 use Rattle.demands.proofs.OfLines.{line-demand3}
 use Rattle.demands.proofs.VisibleText.{visible-demand}
 
--- the three modes by their settings byte
-straight-is : (s : Settings) → settingsOf 3 ≡ straight s
+-- the three modes by their settings bytes, in either edition
+straight-is : (settings : ℕ) → Straight settings → (s : Settings) → settingsOf settings ≡ straight s
 unfolding settingsOf
-straight-is s = refl
+straight-is settings (inl e) s = ap settingsOf e
+straight-is settings (inr e) s = ap settingsOf e
 
-coloured-is : (s : Settings) → settingsOf 1 ≡ coloured s
+coloured-is : (settings : ℕ) → Coloured settings → (s : Settings) → settingsOf settings ≡ coloured s
 unfolding settingsOf
-coloured-is s = refl
+coloured-is settings (inl e) s = ap settingsOf e
+coloured-is settings (inr e) s = ap settingsOf e
 
 plain-is : (settings : ℕ) → Colourless settings → settingsOf settings ≡ plain (settingsOf settings)
 unfolding settingsOf
 plain-is settings (inl e) = rw e
-plain-is settings (inr e) = rw e
+plain-is settings (inr (inl e)) = rw e
+plain-is settings (inr (inr (inl e))) = rw e
+plain-is settings (inr (inr (inr e))) = rw e
+
+-- what an edition reads, the first reads alike
+read-first : (edition : Edition) (t : List ℕ) (s : LogSegments) → readBy edition t ≡ read s → readTemplate t ≡ read s
+unfolding readBy
+read-first Edition.First t s e = e
+read-first Edition.Strict t s e = used-read (firstOf (unusedIn (marked t))) (readTemplate t) s e .0
 
 module _ (t : List ℕ) (s : LogSegments) (d : List ℕ) where
   abbrev r : Record
@@ -45,7 +59,7 @@ module _ (t : List ℕ) (s : LogSegments) (d : List ℕ) where
       → take (answer / 256) left ≡ lineOf (settingsOf settings) t s r
   answered e settings lent left answer a =
       let c = call-demand2 t settings d lent .only left answer (a .0) (a .1) in
-      let f = c .1 .template in
+      let f = read-first (editionOf settings) t (c .0) (c .1 .template) in
       let same : c .0 ≡ s = cc in
       c .2 .front ∙ ap (λ (x : LogSegments). lineOf (settingsOf settings) t x r) same
 
@@ -60,24 +74,24 @@ module _ (t : List ℕ) (s : LogSegments) (d : List ℕ) where
   }
 
   -- what is visible of a straight line is the plain line
-  same : readTemplate t ≡ read s → FreeSegments t s → FreeRecord r → (settings : ℕ) → Colourless settings
-      → (lent₁ lent₂ left₁ left₂ : List ℕ) (answer₁ answer₂ : ℕ) → Answered t 3 d lent₁ left₁ answer₁ → Answered t settings d lent₂ left₂ answer₂
+  same : readTemplate t ≡ read s → FreeSegments t s → FreeRecord r → (set₁ set₂ : ℕ) → Straight set₁ → Colourless set₂
+      → (lent₁ lent₂ left₁ left₂ : List ℕ) (answer₁ answer₂ : ℕ) → Answered t set₁ d lent₁ left₁ answer₁ → Answered t set₂ d lent₂ left₂ answer₂
       → visible (take (answer₁ / 256) left₁) ≡ take (answer₂ / 256) left₂
-  same e f g settings p lent₁ lent₂ left₁ left₂ answer₁ answer₂ a b =
-      let x = settingsOf settings in
-      ap visible (answered e 3 lent₁ left₁ answer₁ a ∙ ap (λ (y : Settings). lineOf y t s r) (straight-is x))
+  same e f g set₁ set₂ q p lent₁ lent₂ left₁ left₂ answer₁ answer₂ a b =
+      let x = settingsOf set₂ in
+      ap visible (answered e set₁ lent₁ left₁ answer₁ a ∙ ap (λ (y : Settings). lineOf y t s r) (straight-is set₁ q x))
       ∙ line-demand3 x t s r .same f g
-      ∙ ap (λ (y : Settings). lineOf y t s r) (sym (plain-is settings p))
-      ∙ sym (answered e settings lent₂ left₂ answer₂ b)
+      ∙ ap (λ (y : Settings). lineOf y t s r) (sym (plain-is set₂ p))
+      ∙ sym (answered e set₂ lent₂ left₂ answer₂ b)
 
   pub call-demand3 : CallDemand3 t s d
   call-demand3 = record {
     same = same;
-    shown-plain = λ e f g settings p lent₁ lent₂ lent₃ left₁ left₂ left₃ answer₁ answer₂ answer₃ a b m k.
+    shown-plain = λ e f g set₁ set₂ q p lent₁ lent₂ lent₃ left₁ left₂ left₃ answer₁ answer₂ answer₃ a b m k.
         visible-demand (take (answer₁ / 256) left₁) lent₃ .shown left₃ answer₃ m k .front
-        ∙ same e f g settings p lent₁ lent₂ left₁ left₂ answer₁ answer₂ a b;
-    fills-straight = λ e. made-of Fills e 3 (straight off) (straight-is off) (line-demand3 off t s r .fills-straight);
+        ∙ same e f g set₁ set₂ q p lent₁ lent₂ left₁ left₂ answer₁ answer₂ a b;
+    fills-straight = λ e settings q. made-of Fills e settings (straight off) (straight-is settings q off) (line-demand3 off t s r .fills-straight);
     fills-plain = λ e settings p.
         let x = settingsOf settings in made-of Fills e settings (plain x) (plain-is settings p) (line-demand3 x t s r .fills-plain);
-    falls-short = λ e. made-of FallsShort e 1 (coloured off) (coloured-is off) (line-demand3 off t s r .falls-short);
+    falls-short = λ e settings q. made-of FallsShort e settings (coloured off) (coloured-is settings q off) (line-demand3 off t s r .falls-short);
   }

@@ -1,12 +1,12 @@
--- Every built-in template is read, for a device and for a host. Assumes nothing.
+-- Every built-in template is read by either edition, for a device and for a host. Assumes nothing.
 use Prim.Native.Nat.{ℕ}
 use mathlib.Core.Path.{_≡_, refl}
 use mathlib.Core.Bool.{Bool, true, false, _&&_}
 use mathlib.Core.List.{List, [], _∷_}
-use Rattle.builtin.specs.declared.Style.{Style}
 use Rattle.builtin.specs.declared.Style.the-variants.{Default, OneLine}
 use Rattle.builtin.specs.Builtins.{builtin, forHost, builtinText}
-use Rattle.template.specs.Template.{Template, read, refusal, readTemplate}
+use Rattle.template.specs.declared.Edition.{Edition}
+use Rattle.template.specs.Template.{Template, read, refusal, readBy}
 use Rattle.buffer.specs.Computing as buffer
 use Rattle.utf8.specs.Computing as utf8
 use Rattle.characters.specs.Computing as characters
@@ -17,6 +17,7 @@ use Rattle.segments.specs.Computing as segments
 use Rattle.parts.specs.Computing as parts
 use Rattle.braces.specs.Computing as braces
 use Rattle.building.specs.Computing as building
+use Rattle.unused.specs.Computing as unused
 use Rattle.template.specs.Computing as template
 
 -- by style, host, location and timestamp
@@ -44,14 +45,19 @@ abbrev isRead : Template → Bool
 isRead (read s) = true
 isRead (refusal r) = false
 
--- whether each of some templates is read
-pub allRead : List (List ℕ) → Bool
+-- whether each of some templates is read by an edition
+pub allRead : Edition → List (List ℕ) → Bool
 unfolding buffer.computes utf8.computes characters.computes runs.computes letters.computes words.computes
-    segments.computes parts.computes braces.computes building.computes template.computes
-allRead [] = true
-allRead (t ∷ rest) = isRead (readTemplate t) && allRead rest
+    segments.computes parts.computes braces.computes building.computes unused.computes template.computes
+allRead edition [] = true
+allRead edition (t ∷ rest) = isRead (readBy edition t) && allRead edition rest
 
 -- each built-in template is read
-pub builtins-read : allRead builtins ≡ true
+pub builtins-read : allRead Edition.First builtins ≡ true
 unfolding allRead builtin forHost
 builtins-read = refl
+
+-- by the strict edition, too: all eight leave nothing unused, for a device and for a host
+pub builtins-strict : allRead Edition.Strict builtins ≡ true
+unfolding allRead builtin forHost
+builtins-strict = refl

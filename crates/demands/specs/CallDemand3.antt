@@ -23,9 +23,17 @@ use Rattle.visible.specs.Visible.{visibleEntry}
 use Rattle.demands.specs.Demand3.{Fills, FallsShort}
 use Rattle.demands.specs.Lines.{FreeSegments, FreeRecord}
 
--- the settings byte with colour off: "1 colour, 2 straight"
+-- the settings bytes by their modes, "1 colour, 2 straight", in the first edition and in the strict one, 4 more: with colour off
 abbrev pub Colourless : ℕ → Type 0
-Colourless settings = (settings ≡ 0) ⊎ (settings ≡ 2)
+Colourless settings = (settings ≡ 0) ⊎ (settings ≡ 2) ⊎ (settings ≡ 4) ⊎ (settings ≡ 6)
+
+-- in straight mode
+abbrev pub Straight : ℕ → Type 0
+Straight settings = (settings ≡ 3) ⊎ (settings ≡ 7)
+
+-- in the crate's coloured mode
+abbrev pub Coloured : ℕ → Type 0
+Coloured settings = (settings ≡ 1) ⊎ (settings ≡ 5)
 
 -- a line call with these settings answered a line: its bytes are the first `answer / 256` of the buffer it left
 abbrev pub Answered : List ℕ → ℕ → List ℕ → List ℕ → List ℕ → ℕ → Type 0
@@ -40,25 +48,25 @@ pub record MadeOf (P : Settings → Format → List ℕ → Type 0) (settings : 
   pub made : x ≡ joined (settingsOf settings) m
   pub each : Eachs (P (settingsOf settings)) (settingsOf settings) m
 
--- of line calls on the template t, read as s, and the record d
+-- of line calls on the template t, read as s ("accepted templates of either" edition: what the strict one reads, the first reads alike), and the record d
 pub record CallDemand3 (t : List ℕ) (s : LogSegments) (d : List ℕ) : Type 0 where
   -- "in straight mode the coloured line with its colour sequences taken out once, left to right, is byte for byte the plain line": two calls
   pub same : readTemplate t ≡ read s → FreeSegments t s → FreeRecord (recordOf (laidOut d))
-      → (settings : ℕ) → Colourless settings → (lent₁ lent₂ left₁ left₂ : List ℕ) (answer₁ answer₂ : ℕ)
-      → Answered t 3 d lent₁ left₁ answer₁ → Answered t settings d lent₂ left₂ answer₂
+      → (coloured plain : ℕ) → Straight coloured → Colourless plain → (lent₁ lent₂ left₁ left₂ : List ℕ) (answer₁ answer₂ : ℕ)
+      → Answered t coloured d lent₁ left₁ answer₁ → Answered t plain d lent₂ left₂ answer₂
       → visible (take (answer₁ / 256) left₁) ≡ take (answer₂ / 256) left₂
   -- the same of three calls: what a third call shows of the first one's line is the second one's line
   pub shown-plain : readTemplate t ≡ read s → FreeSegments t s → FreeRecord (recordOf (laidOut d))
-      → (settings : ℕ) → Colourless settings → (lent₁ lent₂ lent₃ left₁ left₂ left₃ : List ℕ) (answer₁ answer₂ answer₃ : ℕ)
-      → Answered t 3 d lent₁ left₁ answer₁
-      → Answered t settings d lent₂ left₂ answer₂
+      → (coloured plain : ℕ) → Straight coloured → Colourless plain → (lent₁ lent₂ lent₃ left₁ left₂ left₃ : List ℕ) (answer₁ answer₂ answer₃ : ℕ)
+      → Answered t coloured d lent₁ left₁ answer₁
+      → Answered t plain d lent₂ left₂ answer₂
       → Meets (visibleEntry (take (answer₁ / 256) left₁) lent₃) lent₃ left₃ answer₃ → answer₃ % 256 ≡ 0
       → take (answer₃ / 256) left₃ ≡ take (answer₂ / 256) left₂
   -- "each group and specifier shown .. fills exactly the larger of its width and its visible characters": in straight mode, and with colour off
-  pub fills-straight : readTemplate t ≡ read s → (lent left : List ℕ) (answer : ℕ)
-      → Answered t 3 d lent left answer → MadeOf Fills 3 (shownBy t s d) (take (answer / 256) left)
+  pub fills-straight : readTemplate t ≡ read s → (settings : ℕ) → Straight settings → (lent left : List ℕ) (answer : ℕ)
+      → Answered t settings d lent left answer → MadeOf Fills settings (shownBy t s d) (take (answer / 256) left)
   pub fills-plain : readTemplate t ≡ read s → (settings : ℕ) → Colourless settings → (lent left : List ℕ) (answer : ℕ)
       → Answered t settings d lent left answer → MadeOf Fills settings (shownBy t s d) (take (answer / 256) left)
   -- "In the crate's coloured mode a group's padding falls short by exactly the smaller of the padding due and the bytes inserted"
-  pub falls-short : readTemplate t ≡ read s → (lent left : List ℕ) (answer : ℕ)
-      → Answered t 1 d lent left answer → MadeOf FallsShort 1 (shownBy t s d) (take (answer / 256) left)
+  pub falls-short : readTemplate t ≡ read s → (settings : ℕ) → Coloured settings → (lent left : List ℕ) (answer : ℕ)
+      → Answered t settings d lent left answer → MadeOf FallsShort settings (shownBy t s d) (take (answer / 256) left)

@@ -10,11 +10,13 @@ use Rattle.letters.specs.Marked.{marked}
 use Rattle.refusals.specs.declared.Refusal.{Refusal}
 use Rattle.words.specs.Trying as trying
 use Rattle.segments.specs.Segments.{LogSegments, isLog, namedAmong}
-use Rattle.template.specs.Template.{read, reading, readTemplate}
+use Rattle.unused.specs.Unused.{Unused, placeOf, unusedIn}
+use Rattle.template.specs.declared.Edition.{Edition}
+use Rattle.template.specs.Template.{read, reading, readBy}
 use Rattle.record.specs.Layout.{Laid, rightSize, laidOut}
 use Rattle.record.specs.Contents.{hasFile, hasLine, hasModule, recordOf}
 use Rattle.fields.specs.Lines.{lineOf}
-use Rattle.settings.specs.Bits.{settingsOf}
+use Rattle.settings.specs.Bits.{settingsOf, editionOf}
 
 -- ---- a template
 
@@ -42,9 +44,35 @@ Gives t s = Legible t × ((made : ℕ) × (place : ℕ) × (reading (marked t) �
 abbrev pub Wordless : List ℕ → Type 0
 Wordless t = (s : LogSegments) × Gives t s × (namedAmong isLog s ≡ false)
 
--- none of them: it is accepted, as the segments s
-abbrev pub Accepts : List ℕ → LogSegments → Type 0
-Accepts t s = Gives t s × (namedAmong isLog s ≡ true)
+-- none of them: the first edition accepts it, as the segments s
+abbrev pub FirstAccepts : List ℕ → LogSegments → Type 0
+FirstAccepts t s = Gives t s × (namedAmong isLog s ≡ true)
+
+-- ---- a template by either edition
+
+-- "with every byte used and every parameter still in force", where the edition asks for that
+abbrev pub AllInForce : Edition → List ℕ → Type 0
+AllInForce Edition.First t = Unit {0}
+AllInForce Edition.Strict t = unusedIn (marked t) ≡ []
+
+-- the edition accepts it, as the segments s
+abbrev pub Accepts : Edition → List ℕ → LogSegments → Type 0
+Accepts edition t s = FirstAccepts t s × AllInForce edition t
+
+-- one of what is left unused stands at p
+abbrev pub OneAt : ℕ → List Unused → Type 0
+OneAt p [] = ⊥
+OneAt p (u ∷ rest) = (placeOf u ≡ p) ⊎ OneAt p rest
+
+-- none of it stands before p
+abbrev pub NoneBefore : ℕ → List Unused → Type 0
+NoneBefore p [] = Unit {0}
+NoneBefore p (u ∷ rest) = (p ≤ placeOf u) × NoneBefore p rest
+
+-- 17 with the place p: "bytes dropped or a parameter lost, with the place (from 0) of the first dropped byte or, if it comes earlier, of the lost parameter"
+abbrev pub Drops : Edition → List ℕ → ℕ → Type 0
+Drops Edition.First t p = ⊥
+Drops Edition.Strict t p = ((s : LogSegments) × FirstAccepts t s) × (OneAt p (unusedIn (marked t)) × NoneBefore p (unusedIn (marked t)))
 
 -- ---- a record
 
@@ -101,16 +129,16 @@ RecordPasses d = (BadlyMarked d → ⊥) × AllPass (fieldsOf d)
 
 -- "an unknown settings bit or a record of the wrong size is 15"
 abbrev pub NoCall : ℕ → List ℕ → Type 0
-NoCall settings d = (4 ≤ settings) ⊎ (rightSize d ≡ false)
+NoCall settings d = (8 ≤ settings) ⊎ (rightSize d ≡ false)
 
 -- neither
 abbrev pub IsCall : ℕ → List ℕ → Type 0
-IsCall settings d = (settings < 4) × (rightSize d ≡ true)
+IsCall settings d = (settings < 8) × (rightSize d ≡ true)
 
--- a call whose template is read as s and whose record passes
+-- a call whose template is read as s, in the edition that its settings ask for, and whose record passes
 pub record AcceptedCall (t : List ℕ) (settings : ℕ) (d : List ℕ) (s : LogSegments) : Type 0 where
   pub call : IsCall settings d
-  pub template : readTemplate t ≡ read s
+  pub template : readBy (editionOf settings) t ≡ read s
   pub passes : RecordPasses (laidOut d)
 
 -- and its line

@@ -1,6 +1,7 @@
--- Demand 1: "Any bytes as template, record or sheet get a line or one of document 01's numbered refusals, each exactly when stated there.
+-- Demand 1: "Any bytes as template, record or sheet get a line or one of document 01's numbered refusals, each exactly when stated there" (and 17 of
+-- document 02, in its strict edition).
 -- A refusal writes nothing into any lent buffer. No caller has to check first." Assumes nothing.
-use Prim.Native.Nat.{ℕ, _+_, _≤_, _<_, _/_, _%_}
+use Prim.Native.Nat.{ℕ, _+_, _*_, _≤_, _<_, _/_, _%_}
 use mathlib.Core.Path.{_≡_}
 use mathlib.Core.Bool.{Bool, true, false}
 use mathlib.Core.List.{List}
@@ -11,16 +12,18 @@ use Rattle.refusals.specs.declared.Refusal.{Refusal}
 use Rattle.refusals.specs.declared.Refusal.the-variants.{Failure, TooManySegments, TooDeep, TooWide, TooManyF, HalfEscape, FieldTooLong, FieldNotUtf8, NotARecord}
 use Rattle.refusals.specs.Numbers.{number}
 use Rattle.segments.specs.Segments.{LogSegments}
-use Rattle.template.specs.Template.{read, readTemplate, namesTimestamp}
+use Rattle.template.specs.declared.Edition.{Edition}
+use Rattle.template.specs.Template.{read, readBy, namesTimestamp}
+use Rattle.settings.specs.Bits.{editionOf}
 use Rattle.record.specs.Layout.{Laid, laidOut}
 use Rattle.checks.specs.Checks.{recordRefusal}
 use Rattle.builtin.specs.declared.Style.{Style}
 use Rattle.builtin.specs.Builtins.{builtinText}
-use Rattle.checking.specs.Templates.{checkOf, timestampOf}
+use Rattle.checking.specs.Templates.{checkOf, timestampOf, checkEntry, timestampEntry}
 use Rattle.sheet.specs.Sheets.{Sheet, bodyCount, contentsEnd, bodyBytes, bodies, areBodies, sheetOf}
 use Rattle.answer.specs.Answers.{Outcome, line, refused, inRoom, Meets, lineEntry}
 use Rattle.outcomes.specs.Program.{recordLines, sessionEntry}
-use Rattle.demands.specs.Conditions.{TemplateLong, TemplateBroken, Stops, Wordless, Accepts, BadlyMarked, RecordLong, RecordBroken, RecordPasses, NoCall, IsCall, AcceptedCall, callLine}
+use Rattle.demands.specs.Conditions.{TemplateLong, TemplateBroken, Stops, Wordless, Accepts, Drops, BadlyMarked, RecordLong, RecordBroken, RecordPasses, NoCall, IsCall, AcceptedCall, callLine}
 
 -- ---- what an entry with a lent buffer returns and leaves
 
@@ -31,54 +34,64 @@ numberOf (refused r) = number r
 
 -- of an outcome o, whatever answer and whatever buffer meet it
 pub record Returns (o : Outcome) (lent : List ℕ) : Type 0 where
-  -- "a line or one of document 01's numbered refusals"; document 02, E3: "Refusal 10 is no longer given"
-  pub numbered : (numberOf o ≤ 15) × (numberOf o ≢ 10)
+  -- "a line or one of document 01's numbered refusals", or 17; document 02, E3: "Refusal 10 is no longer given"
+  pub numbered : (numberOf o ≤ 17) × (numberOf o ≢ 10) × (numberOf o ≢ 16)
   -- "Every refusal returns its number"
   pub told : (left : List ℕ) (answer : ℕ) → Meets o lent left answer → answer % 256 ≡ numberOf o
-  -- "(13 also the length; no other refusal returns one)"
-  pub no-length : (left : List ℕ) (answer : ℕ) → Meets o lent left answer → answer % 256 ≢ 0 → answer % 256 ≢ 13 → answer / 256 ≡ 0
+  -- "(13 also the length; no other refusal returns one)"; 17 returns its place
+  pub no-length : (left : List ℕ) (answer : ℕ) → Meets o lent left answer → answer % 256 ≢ 0 → answer % 256 ≢ 13 → answer % 256 ≢ 17 → answer / 256 ≡ 0
   -- "A refusal writes nothing into any lent buffer"
   pub untouched : (left : List ℕ) (answer : ℕ) → Meets o lent left answer → answer % 256 ≢ 0 → left ≡ lent
 
 -- ---- any bytes as template
 
--- the number of a template, which is also what is answered about a template alone: 0 where it is read, else 1 to 9
-abbrev pub templateNumber : List ℕ → ℕ
-templateNumber t = checkOf (readTemplate t)
+-- what is answered about a template alone in an edition: 0 where it is read, its refusal's number, or 17 + 256 × place
+abbrev pub templateNumber : Edition → List ℕ → ℕ
+templateNumber edition t = checkOf (readBy edition t)
 
--- each number "Given exactly when"
-pub record TemplateDemand1 (t : List ℕ) : Type 0 where
+-- each number "Given exactly when", of either edition
+pub record TemplateDemand1 (edition : Edition) (t : List ℕ) : Type 0 where
   -- accepted, and as which segments
-  pub is-0 : templateNumber t ≡ 0 ↔ ((s : LogSegments) × Accepts t s)
-  pub accepted : (s : LogSegments) → (readTemplate t ≡ read s) ↔ Accepts t s
+  pub is-0 : templateNumber edition t ≡ 0 ↔ ((s : LogSegments) × Accepts edition t s)
+  pub accepted : (s : LogSegments) → (readBy edition t ≡ read s) ↔ Accepts edition t s
   -- "template over 1,024 bytes"
-  pub is-1 : templateNumber t ≡ 1 ↔ TemplateLong t
+  pub is-1 : templateNumber edition t ≡ 1 ↔ TemplateLong t
   -- "template not UTF-8"
-  pub is-2 : templateNumber t ≡ 2 ↔ TemplateBroken t
+  pub is-2 : templateNumber edition t ≡ 2 ↔ TemplateBroken t
   -- "the crate's parser fails outright on it (a `Failure`)"
-  pub is-3 : templateNumber t ≡ 3 ↔ Stops t Failure
+  pub is-3 : templateNumber edition t ≡ 3 ↔ Stops t Failure
   -- "read, but no `{s}` at any depth; the empty template too"
-  pub is-4 : templateNumber t ≡ 4 ↔ Wordless t
+  pub is-4 : templateNumber edition t ≡ 4 ↔ Wordless t
   -- "a 65th segment is made"
-  pub is-5 : templateNumber t ≡ 5 ↔ Stops t TooManySegments
+  pub is-5 : templateNumber edition t ≡ 5 ↔ Stops t TooManySegments
   -- "a closed brace is entered at depth 9 (outermost is 1)"
-  pub is-6 : templateNumber t ≡ 6 ↔ Stops t TooDeep
+  pub is-6 : templateNumber edition t ≡ 6 ↔ Stops t TooDeep
   -- "a width above 512 is read, however many digits"
-  pub is-7 : templateNumber t ≡ 7 ↔ Stops t TooWide
+  pub is-7 : templateNumber edition t ≡ 7 ↔ Stops t TooWide
   -- "a specifier name of more than 255 `f`"
-  pub is-8 : templateNumber t ≡ 8 ↔ Stops t TooManyF
+  pub is-8 : templateNumber edition t ≡ 8 ↔ Stops t TooManyF
   -- "a search for a closing brace meets a backslash as the last byte of its text (the crate panics)"
-  pub is-9 : templateNumber t ≡ 9 ↔ Stops t HalfEscape
+  pub is-9 : templateNumber edition t ≡ 9 ↔ Stops t HalfEscape
   -- "Refusal 10 is no longer given" (document 02, E3)
-  pub never-10 : templateNumber t ≢ 10
+  pub never-10 : templateNumber edition t ≢ 10
+  -- "bytes dropped or a parameter lost, with the place (from 0) .. checked after 3 to 10" (document 02, E5), and the place is one in the template
+  pub is-17 : (p : ℕ) → templateNumber edition t ≡ 17 + 256 * p ↔ Drops edition t p
+  pub inside : (p : ℕ) → Drops edition t p → p < length t
   -- and no other
-  pub numbered : templateNumber t ≤ 9
+  pub numbered : (templateNumber edition t ≤ 9) ⊎ ((p : ℕ) × (templateNumber edition t ≡ 17 + 256 * p))
 
 -- "the yes/no whether a template names `{t}`": 256 for yes, 0 for no, or the template's number
-pub record TimestampDemand1 (t : List ℕ) : Type 0 where
-  pub told : timestampOf (readTemplate t) % 256 ≡ templateNumber t
-  pub yes : timestampOf (readTemplate t) ≡ 256 ↔ ((s : LogSegments) × Accepts t s × (namesTimestamp s ≡ true))
-  pub no : timestampOf (readTemplate t) ≡ 0 ↔ ((s : LogSegments) × Accepts t s × (namesTimestamp s ≡ false))
+pub record TimestampDemand1 (edition : Edition) (t : List ℕ) : Type 0 where
+  pub told : templateNumber edition t ≢ 0 → timestampOf (readBy edition t) ≡ templateNumber edition t
+  pub yes : timestampOf (readBy edition t) ≡ 256 ↔ ((s : LogSegments) × Accepts edition t s × (namesTimestamp s ≡ true))
+  pub no : timestampOf (readBy edition t) ≡ 0 ↔ ((s : LogSegments) × Accepts edition t s × (namesTimestamp s ≡ false))
+
+-- the two calls about a template alone, with a settings byte: an unknown bit is 15, "first"; else the edition asked for decides
+pub record CheckDemand1 (t : List ℕ) (settings : ℕ) : Type 0 where
+  pub is-15 : checkEntry t settings ≡ 15 ↔ (8 ≤ settings)
+  pub checked : settings < 8 → checkEntry t settings ≡ templateNumber (editionOf settings) t
+  pub timestamp-15 : timestampEntry t settings ≡ 15 ↔ (8 ≤ settings)
+  pub asked : settings < 8 → timestampEntry t settings ≡ timestampOf (readBy (editionOf settings) t)
 
 -- ---- any bytes as record
 
@@ -118,7 +131,7 @@ pub record SheetDemand1 (d : List ℕ) : Type 0 where
 abbrev pub callNumber : List ℕ → ℕ → List ℕ → List ℕ → ℕ
 callNumber t settings d lent = numberOf (lineEntry t settings d lent)
 
--- each number "Given exactly when", in the order 15; 1; 2; then 3 and 5 to 9, "the first met in the crate's own order of trying; 4; 14; then for
+-- each number "Given exactly when", in the order 15; 1; 2; then 3 and 5 to 9, "the first met in the crate's own order of trying; 4"; 17; "14; then for
 -- file, module, timestamp, message in turn 11 before 12; 13"
 pub record CallDemand1 (t : List ℕ) (settings : ℕ) (d lent : List ℕ) : Type 0 where
   -- "an unknown settings bit or a record of the wrong size is 15"
@@ -143,12 +156,16 @@ pub record CallDemand1 (t : List ℕ) (settings : ℕ) (d lent : List ℕ) : Typ
   pub never-10 : callNumber t settings d lent ≢ 10
   -- "read, but no `{s}` at any depth; the empty template too"
   pub is-4 : callNumber t settings d lent ≡ 4 ↔ (IsCall settings d × Wordless t)
+  -- "bytes dropped or a parameter lost, with the place (from 0)" (document 02, E5)
+  pub is-17 : callNumber t settings d lent ≡ 17 ↔ (IsCall settings d × ((p : ℕ) × Drops (editionOf settings) t p))
+  pub place : IsCall settings d → (p : ℕ) → Drops (editionOf settings) t p → (left : List ℕ) (answer : ℕ)
+      → Meets (lineEntry t settings d lent) lent left answer → answer / 256 ≡ p
   -- "source over 1, level over 5, host without level, presence mask over 7, or an absent field with a non-zero length or line"
-  pub is-14 : callNumber t settings d lent ≡ 14 ↔ (IsCall settings d × ((s : LogSegments) × Accepts t s) × BadlyMarked (laidOut d))
+  pub is-14 : callNumber t settings d lent ≡ 14 ↔ (IsCall settings d × ((s : LogSegments) × Accepts (editionOf settings) t s) × BadlyMarked (laidOut d))
   -- "a field over 4,096 bytes"
-  pub is-11 : callNumber t settings d lent ≡ 11 ↔ (IsCall settings d × ((s : LogSegments) × Accepts t s) × RecordLong (laidOut d))
+  pub is-11 : callNumber t settings d lent ≡ 11 ↔ (IsCall settings d × ((s : LogSegments) × Accepts (editionOf settings) t s) × RecordLong (laidOut d))
   -- "a field not UTF-8"
-  pub is-12 : callNumber t settings d lent ≡ 12 ↔ (IsCall settings d × ((s : LogSegments) × Accepts t s) × RecordBroken (laidOut d))
+  pub is-12 : callNumber t settings d lent ≡ 12 ↔ (IsCall settings d × ((s : LogSegments) × Accepts (editionOf settings) t s) × RecordBroken (laidOut d))
   -- "the whole line is longer than the lent buffer; the needed length is returned"
   pub is-13 : callNumber t settings d lent ≡ 13 ↔ ((s : LogSegments) × AcceptedCall t settings d s × (length lent < length (callLine t settings d s)))
   pub needed : (s : LogSegments) → AcceptedCall t settings d s → (left : List ℕ) (answer : ℕ)
@@ -167,10 +184,14 @@ sessionNumber d lent = numberOf (sessionEntry d lent)
 abbrev pub SheetWhose : List ℕ → (List ℕ → Type 0) → Type 0
 SheetWhose d P = (h : Sheet) × (sheetOf d ≡ some h) × P (h .template)
 
--- d is a sheet whose template is read as s
+-- d is a sheet whose template drops or loses something, the first of it at p
+abbrev pub SheetDrops : List ℕ → ℕ → Type 0
+SheetDrops d p = (h : Sheet) × (sheetOf d ≡ some h) × Drops (editionOf (h .settings)) (h .template) p
+
+-- d is a sheet whose template is read as s, in the edition that its settings ask for
 pub record AcceptedSheet (d : List ℕ) (h : Sheet) (s : LogSegments) : Type 0 where
   pub sheet : sheetOf d ≡ some h
-  pub template : readTemplate (h .template) ≡ read s
+  pub template : readBy (editionOf (h .settings)) (h .template) ≡ read s
 
 -- each number "Given exactly when"; a refused record has its line among the others, so 11, 12 and 14 are never given for a whole sheet
 pub record SessionDemand1 (d lent : List ℕ) : Type 0 where
@@ -196,6 +217,9 @@ pub record SessionDemand1 (d lent : List ℕ) : Type 0 where
   pub never-10 : sessionNumber d lent ≢ 10
   -- "read, but no `{s}` at any depth; the empty template too"
   pub is-4 : sessionNumber d lent ≡ 4 ↔ SheetWhose d Wordless
+  -- "bytes dropped or a parameter lost, with the place (from 0)" (document 02, E5)
+  pub is-17 : sessionNumber d lent ≡ 17 ↔ ((p : ℕ) × SheetDrops d p)
+  pub place : (p : ℕ) → SheetDrops d p → (left : List ℕ) (answer : ℕ) → Meets (sessionEntry d lent) lent left answer → answer / 256 ≡ p
   pub never-14 : sessionNumber d lent ≢ 14
   pub never-11 : sessionNumber d lent ≢ 11
   pub never-12 : sessionNumber d lent ≢ 12

@@ -6,7 +6,8 @@ use mathlib.Core.Bool.{true}
 use mathlib.Core.List.{List, [], _∷_, _++_}
 use lib.ListN.{length, take, drop}
 use Rattle.segments.specs.Segments.{LogSegments}
-use Rattle.template.specs.Template.{read, readTemplate}
+use Rattle.template.specs.Template.{read, readBy}
+use Rattle.settings.specs.Bits.{editionOf}
 use Rattle.sheet.specs.Sheets.{bodies, isSheet}
 use Rattle.answer.specs.Answers.{line, inRoom, Meets, callOutcome, lineEntry}
 use Rattle.outcomes.specs.Program.{outcomeLine, sessionText, sessionEntry}
@@ -37,12 +38,12 @@ unfoldable pub callLines : ℕ → List ℕ → List (List ℕ) → List ℕ
 callLines settings t [] = []
 callLines settings t (d ∷ rest) = outcomeLine (callOutcome settings t d 65536) ++ callLines settings t rest
 
--- d is a sheet: "Body 0: a settings byte .., then the template. Each other body is a record"; and its template is read
+-- d is a sheet: "Body 0: a settings byte .., then the template. Each other body is a record"; and its template is read, in the edition asked for
 pub record SheetBodies (d : List ℕ) (settings : ℕ) (t : List ℕ) (records : List (List ℕ)) : Type 0 where
   pub sheet : isSheet d ≡ true
   pub laid : bodies d ≡ (settings ∷ t) ∷ records
   pub segments : LogSegments
-  pub template : readTemplate t ≡ read segments
+  pub template : readBy (editionOf settings) t ≡ read segments
 
 -- of a session call
 pub record SessionDemand2 (d lent : List ℕ) : Type 0 where

@@ -1,7 +1,6 @@
 -- The fourteen starred examples of document 01, "Examples on both sides", as one statement over one list. Assumes nothing.
 use Prim.Native.Nat.{ℕ}
 use mathlib.Core.Path.{_≡_, refl}
-use mathlib.Core.Bool.{Bool, true, false}
 use mathlib.Core.List.{List, [], _∷_, _++_}
 use Rattle.buffer.specs.Bytes.{character, bytes}
 use Rattle.refusals.specs.Numbers.{number}
@@ -9,6 +8,7 @@ use Rattle.colour.specs.declared.Settings.{Settings}
 use Rattle.colour.specs.Sequences.{visible}
 use Rattle.record.specs.Layout.{Laid}
 use Rattle.colour.specs.Modes.{off, plain, straight, coloured}
+use Rattle.template.specs.declared.Edition.{Edition}
 use Rattle.answer.specs.Answers.{Outcome, line, refused, outcome}
 use Rattle.buffer.specs.Computing as buffer
 use Rattle.utf8.specs.Computing as utf8
@@ -134,7 +134,7 @@ unfolding buffer.computes utf8.computes characters.computes runs.computes letter
     segments.computes parts.computes braces.computes building.computes template.computes
     colour.computes records.computes checks.computes formats.computes paths.computes fields.computes answer.computes
 said [] = []
-said (x ∷ rest) = put-as (x .says) (outcome (x .settings) (x .template) (x .record′) 100) ∷ said rest
+said (x ∷ rest) = put-as (x .says) (outcome Edition.First (x .settings) (x .template) (x .record′) 100) ∷ said rest
 
 -- what the examples say
 pub expected : List Example → List Says

@@ -8,4 +8,6 @@ pub mod Examples
 pub mod LetterDemand
 pub mod Lines
 pub mod OneLine
+pub mod StrictDemand
+pub mod StrictExamples
 pub mod VisibleText

@@ -3,15 +3,11 @@ use Prim.Native.Nat.{ℕ, zero, suc, _+_, _-_, _≤_, _<_}
 use mathlib.Core.Path.{_≡_, refl, ap, sym, _∙_}
 use mathlib.Core.Bool.{Bool, true, false, _&&_}
 use mathlib.Core.List.{List, [], _∷_}
-use native.Mathlib.Nat.{add-zero}
-use native.Mathlib.Omega.{arith}
 use lib.Dec.{leb}
-use lib.ListN.{length, getD, drop, take, set}
-use lib.Seq.{getD-drop, drop-drop, length-take-le, take-all}
+use lib.ListN.{length, getD, drop}
+use lib.Seq.{getD-drop, drop-drop}
 use borrow.Author.Tests.{le-leb, lt-leb}
-use Rattle.buffer.specs.Buffer.{putAt}
-use Rattle.buffer.proofs.Parts.{drop-step}
-use Rattle.buffer.proofs.Writing.{put-length, put-next}
+use Rattle.buffer.proofs.Parts.{drop-step, first-left}
 use Rattle.letters.specs.Letters.{isAlphabetic}
 use Rattle.letters.specs.Decoding.{sizeOf, point}
 use Rattle.letters.specs.Marked.{opensLetter, leftIn, letterIn, seenAs, markedOn, marked}
@@ -30,13 +26,10 @@ marked-length t = on-length 0 false t
 
 -- ---- the character that has the byte at i
 
-here : (t : List ℕ) (i : ℕ) → getD (drop i t) 0 0 ≡ getD t i 0
-here t i = getD-drop i t 0 0 ∙ ap (λ (k : ℕ). getD t k 0) (add-zero i)
-
 module _ (t : List ℕ) (i n : ℕ) (l : Bool) where
   pub left-first : n ≡ 0 → leftIn n (drop i t) ≡ sizeOf (getD t i 0)
   unfolding leftIn
-  left-first e = ap (λ (k : ℕ). leftIn k (drop i t)) e ∙ ap sizeOf (here t i)
+  left-first e = ap (λ (k : ℕ). leftIn k (drop i t)) e ∙ ap sizeOf (first-left t i)
 
   pub letter-first : n ≡ 0 → letterIn n l (drop i t) ≡ opensLetter (drop i t)
   unfolding letterIn
@@ -55,11 +48,11 @@ letter-on (suc n) l t h = refl
 module _ (t : List ℕ) (i : ℕ) where
   pub opens-not : getD t i 0 < 0xC0 → opensLetter (drop i t) ≡ false
   unfolding opensLetter
-  opens-not h = rw (here t i, lt-leb 0xC0 (getD t i 0) h)
+  opens-not h = rw (first-left t i, lt-leb 0xC0 (getD t i 0) h)
 
   pub opens : 0xC0 ≤ getD t i 0 → opensLetter (drop i t) ≡ isAlphabetic (point (getD t i 0) (getD t (i + 1) 0) (getD t (i + 2) 0) (getD t (i + 3) 0))
   unfolding opensLetter
-  opens h = rw (here t i, le-leb 0xC0 (getD t i 0) h, getD-drop i t 1 0, getD-drop i t 2 0, getD-drop i t 3 0)
+  opens h = rw (first-left t i, le-leb 0xC0 (getD t i 0) h, getD-drop i t 1 0, getD-drop i t 2 0, getD-drop i t 3 0)
 
   -- with what the code read: the three bytes behind, and the code point
   pub opens-by : 0xC0 ≤ getD t i 0 → (x y z p : ℕ) → x ≡ getD t (i + 1) 0 → y ≡ getD t (i + 2) 0 → z ≡ getD t (i + 3) 0 → p ≡ point (getD t i 0) x y z
@@ -82,7 +75,7 @@ module _ (t m : List ℕ) (n : ℕ) (l : Bool) (i : ℕ) (h : i < length t) (q :
   byte-marked x e =
       e
       ∙ ap (λ (y : Bool). seenAs y (getD t i 0)) g
-      ∙ sym (sym (here m i) ∙ ap (λ (s : List ℕ). getD s 0 0) (q ∙ on-step t n l i h))
+      ∙ sym (sym (first-left m i) ∙ ap (λ (s : List ℕ). getD s 0 0) (q ∙ on-step t n l i h))
 
   pub rest-marked : (n′ : ℕ) → n′ ≡ leftIn n (drop i t) → drop (i + 1) m ≡ markedOn (n′ - 1) l′ (drop (i + 1) t)
   rest-marked n′ e =
@@ -90,20 +83,3 @@ module _ (t m : List ℕ) (n : ℕ) (l : Bool) (i : ℕ) (h : i < length t) (q :
       ∙ ap (drop 1) (q ∙ on-step t n l i h)
       ∙ ap (λ (y : Bool). markedOn (leftIn n (drop i t) - 1) y (drop (i + 1) t)) (sym g)
       ∙ ap (λ (k : ℕ). markedOn (k - 1) l′ (drop (i + 1) t)) (sym e)
-
--- ---- the copy: its first i bytes are those of m
-
-module _ (d m : List ℕ) (i : ℕ) (f : length m ≤ length d) where
-  pub copy-length : i ≤ length m → length (putAt d 0 (take i m)) ≡ length d
-  copy-length h = put-length d 0 (take i m) (omega (arith, length-take-le i m h, f))
-
-  pub copy-more : (e : List ℕ) (x : ℕ) → e ≡ putAt d 0 (take i m) → i < length m → x ≡ getD m i 0 → set e i x ≡ putAt d 0 (take (i + 1) m)
-  copy-more e x q h r =
-      let z : i ≡ 0 + i = omega arith in
-      ap (λ (s : List ℕ). set s i x) q
-      ∙ ap (set (putAt d 0 (take i m)) i) r
-      ∙ ap (λ (k : ℕ). set (putAt d 0 (take i m)) k (getD m i 0)) z
-      ∙ put-next d 0 m i h (omega (arith, f))
-
-  pub copy-done : (e : List ℕ) → e ≡ putAt d 0 (take i m) → length m ≤ i → e ≡ putAt d 0 m
-  copy-done e q h = q ∙ ap (putAt d 0) (take-all i m h)

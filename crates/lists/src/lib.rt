@@ -29,7 +29,7 @@ ghost use Rattle.building.specs.Reading.{plainByte, textAt, wordAt, innerAt, pe
 ghost use Rattle.building.specs.Told.{tellParts, tell, tellItems, tellItem, tellPieces, tellPiece, plainItem, plainPiece, itemOf, withLast, joinedBy, Room, PartsWithin, Keeps, ItemsReady, ItemsKeep, ItemWithin, PiecesReady, PiecesKeep, PieceWithin};
 
 // Where the text that begins at `from` ends: before `{` or `%`.
-fn plain_end(t: &[u8], from: usize, to: usize) -> usize
+pub fn plain_end(t: &[u8], from: usize, to: usize) -> usize
     requires { ⌜ (from ≤ to) × (to ≤ length (now t)) ⌝ }
     ensures { λ r. ⌜ r ≡ runEnd plainByte (now (t .entry)) (to - from) from ⌝ }
     ensures within { λ r. ⌜ (from ≤ r) × (r ≤ to) ⌝ }
@@ -73,7 +73,7 @@ pub fn parse_string_segment(
 }
 
 // A specifier or a parameter more.
-fn parse_word(t: &[u8], from: usize, to: usize, p: Parts) -> PartsRead
+pub fn parse_word(t: &[u8], from: usize, to: usize, p: Parts) -> PartsRead
     requires { ⌜ (from ≤ to) × (to ≤ length (now t)) × Narrow (p .format .width) ⌝ }
     ensures { λ r. ⌜ tellParts r ≡ wordAt (now (t .entry)) to from p ⌝ }
     ensures within { λ r. ⌜ PartsWithin (from + 1) to r ⌝ }
@@ -87,7 +87,7 @@ fn parse_word(t: &[u8], from: usize, to: usize, p: Parts) -> PartsRead
 }
 
 // A parameter more.
-fn parse_parameter(t: &[u8], from: usize, to: usize, p: Parts) -> PartsRead
+pub fn parse_parameter(t: &[u8], from: usize, to: usize, p: Parts) -> PartsRead
     requires { ⌜ (from ≤ to) × (to ≤ length (now t)) × Narrow (p .format .width) ⌝ }
     ensures { λ r. ⌜ tellParts r ≡ (parameterAt (now (t .entry)) from to then λ a j. fit (withParameter p a) j) ⌝ }
     ensures within { λ r. ⌜ PartsWithin (from + 1) to r ⌝ }
@@ -101,7 +101,7 @@ fn parse_parameter(t: &[u8], from: usize, to: usize, p: Parts) -> PartsRead
 }
 
 // The words that follow one another, split by colons, as long as they fit.
-fn further_words(t: &[u8], from: usize, to: usize, p: Parts) -> PartsRead
+pub fn further_words(t: &[u8], from: usize, to: usize, p: Parts) -> PartsRead
     requires { ⌜ (from ≤ to) × (to ≤ length (now t)) × Narrow (p .format .width) ⌝ }
     ensures { λ r. ⌜ ((n : ℕ) → to - from ≤ n → tellParts r ≡ further (byte ":") (now (t .entry)) to (wordAt (now (t .entry)) to) n from p) ⌝ }
     ensures within { λ r. ⌜ PartsWithin from to r ⌝ }

@@ -5,7 +5,7 @@ use Prim.Native.Nat.{ℕ, _+_, _-_, _≤_, _<_}
 use native.Mathlib.Omega.{arith}
 use lib.ListN.{length}
 use Rattle.refusals.specs.declared.Refusal.{Refusal}
-use Rattle.refusals.specs.declared.Refusal.the-variants.{TemplateTooLong, TemplateNotUtf8, Failure, NoMessage, TooManySegments, TooDeep, TooWide, TooManyF, HalfEscape, FieldTooLong, FieldNotUtf8, LineTooLong, NotARecord, NotASheet}
+use Rattle.refusals.specs.declared.Refusal.the-variants.{TemplateTooLong, TemplateNotUtf8, Failure, NoMessage, TooManySegments, TooDeep, TooWide, TooManyF, HalfEscape, FieldTooLong, FieldNotUtf8, LineTooLong, NotARecord, NotASheet, Dropped}
 use Rattle.refusals.specs.Numbers.{number}
 use Rattle.fields.specs.Texts.{digits, decimalText}
 use Rattle.outcomes.specs.Program.{refusalLine}
@@ -26,6 +26,7 @@ one-digit FieldNotUtf8 h = absurd (omega (arith, h))
 one-digit (LineTooLong n) h = absurd (omega (arith, h))
 one-digit NotARecord h = absurd (omega (arith, h))
 one-digit NotASheet h = absurd (omega (arith, h))
+one-digit (Dropped p) h = absurd (omega (arith, h))
 
 pub two-digits : (r : Refusal) → 10 ≤ number r → refusalLine r ≡ 33 ∷ 32 ∷ 49 ∷ (48 + (number r - 10)) ∷ 10 ∷ []
 unfolding refusalLine decimalText digits
@@ -43,6 +44,7 @@ two-digits FieldNotUtf8 h = refl
 two-digits (LineTooLong n) h = refl
 two-digits NotARecord h = refl
 two-digits NotASheet h = refl
+two-digits (Dropped p) h = refl
 
 pub refusal-most : (r : Refusal) → length (refusalLine r) ≤ 5
 unfolding refusalLine decimalText digits
@@ -60,6 +62,7 @@ refusal-most FieldNotUtf8 = omega arith
 refusal-most (LineTooLong n) = omega arith
 refusal-most NotARecord = omega arith
 refusal-most NotASheet = omega arith
+refusal-most (Dropped p) = omega arith
 
 -- in the number that the code has
 module _ (r : Refusal) (n : ℕ) (e : n ≡ number r) where

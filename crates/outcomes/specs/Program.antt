@@ -8,11 +8,11 @@ use Rattle.buffer.specs.Table.{Maybe, none, some}
 use Rattle.refusals.specs.declared.Refusal.{Refusal}
 use Rattle.refusals.specs.Numbers.{number}
 use Rattle.segments.specs.Segments.{LogSegments}
-use Rattle.template.specs.Template.{Template, read, refusal, readTemplate}
+use Rattle.template.specs.Template.{Template, read, refusal, readBy}
 use Rattle.fields.specs.Texts.{digits, decimalText}
 use Rattle.record.specs.Layout.{Laid}
 use Rattle.answer.specs.Answers.{Outcome, line, refused, inRoom, recordOutcome}
-use Rattle.settings.specs.Bits.{settingsOf}
+use Rattle.settings.specs.Bits.{settingsOf, editionOf}
 use Rattle.sheet.specs.Sheets.{Sheet, sheetOf}
 use Rattle.sheet.specs.Computing as sheet
 
@@ -42,7 +42,7 @@ sheetText h (refusal r) = refused r
 -- "Order: 15; 1; 2; .."
 unfoldable pub maybeSheetText : Maybe Sheet → Outcome
 maybeSheetText none = refused Refusal.NotASheet
-maybeSheetText (some h) = sheetText h (readTemplate (h .template))
+maybeSheetText (some h) = sheetText h (readBy (editionOf (h .settings)) (h .template))
 
 -- the lines of all records of the sheet d, or its refusal
 unfoldable pub sessionText : List ℕ → Outcome
@@ -61,7 +61,7 @@ sessionOutcome d room = fitting room (sessionText d)
 abbrev pub sessionEntry : List ℕ → List ℕ → Outcome
 sessionEntry d lent = sessionOutcome d (length lent)
 
--- "for 1 to 10 and 15 a single `! N` and newline for the whole sheet" (10 is no longer given)
+-- "for 1 to 10 and 15 a single `! N` and newline for the whole sheet" (10 is no longer given, and 17 is another)
 unfoldable pub asOutput : Outcome → List ℕ
 asOutput (line s) = s
 asOutput (refused r) = refusalLine r

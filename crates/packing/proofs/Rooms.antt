@@ -6,7 +6,7 @@ use native.Mathlib.Omega.{arith}
 use borrow.Author.Tests.{le-leb, lt-leb}
 use lib.Dec.{leb}
 use Rattle.refusals.specs.declared.Refusal.{Refusal}
-use Rattle.refusals.specs.Numbers.{lengthWith}
+use Rattle.refusals.specs.Numbers.{valueWith}
 use Rattle.packing.specs.declared.Answer.{Answer}
 use Rattle.packing.specs.Packing.{answerIn, Packable}
 
@@ -26,6 +26,10 @@ packable-in room n h = by (leb n room)
     by true = h
     by false = h
 
-pub packable-refused : (r : Refusal) → lengthWith r ≡ 0 → Packable (Answer.Refused r)
+pub packable-small : (r : Refusal) → valueWith r ≤ 1024 → Packable (Answer.Refused r)
+unfolding Packable
+packable-small r h = omega (arith, h)
+
+pub packable-refused : (r : Refusal) → valueWith r ≡ 0 → Packable (Answer.Refused r)
 unfolding Packable
 packable-refused r h = omega (arith, h)

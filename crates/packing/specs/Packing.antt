@@ -3,7 +3,7 @@ use Prim.Native.Nat.{ℕ, _+_, _*_, _<_, _^_}
 use mathlib.Core.Bool.{true, false}
 use lib.Dec.{leb}
 use Rattle.refusals.specs.declared.Refusal.{Refusal}
-use Rattle.refusals.specs.Numbers.{number, lengthWith}
+use Rattle.refusals.specs.Numbers.{number, valueWith}
 use Rattle.packing.specs.declared.Answer.{Answer}
 
 -- the answer for a line of n bytes
@@ -13,9 +13,9 @@ answerIn room n = elim (leb n room) [ true ↦ Answer.Line n | false ↦ Answer.
 -- one number for an answer
 unfoldable pub packedAnswer : Answer → ℕ
 packedAnswer (Answer.Line n) = 256 * n
-packedAnswer (Answer.Refused r) = number r + 256 * lengthWith r
+packedAnswer (Answer.Refused r) = number r + 256 * valueWith r
 
 -- a length that can be packed
 unfoldable pub Packable : Answer → Type 0
 Packable (Answer.Line n) = n < 2 ^ 56
-Packable (Answer.Refused r) = lengthWith r < 2 ^ 56
+Packable (Answer.Refused r) = valueWith r < 2 ^ 56

@@ -1,10 +1,10 @@
 // What an entry answers, and one number for it.
 use refusals::Refusal;
-use refusals::length_with;
 use refusals::number_of;
+use refusals::value_with;
 ghost use mathlib.Core.Path.{_≡_};
 ghost use Prim.Native.Nat.{_+_, _*_, _<_, _^_};
-ghost use Rattle.refusals.specs.Numbers.{number, lengthWith};
+ghost use Rattle.refusals.specs.Numbers.{number, valueWith};
 ghost use Rattle.packing.specs.Packing.{answerIn, Packable, packedAnswer};
 
 // A line of so many bytes at the front of the lent buffer, or a refusal.
@@ -23,11 +23,12 @@ pub fn answer_in(room: usize, n: usize) -> Answer
     Answer::Refused(Refusal::LineTooLong(n))
 }
 
-fn pack_refusal(r: Refusal) -> u64
-    requires { ⌜ lengthWith r < 2 ^ 56 ⌝ }
-    ensures { λ n. ⌜ n ≡ number r + 256 * lengthWith r ⌝ }
+// The number of a refusal in the low eight bits, and in the others what it tells besides.
+pub fn pack_refusal(r: Refusal) -> u64
+    requires { ⌜ valueWith r < 2 ^ 56 ⌝ }
+    ensures { λ n. ⌜ n ≡ number r + 256 * valueWith r ⌝ }
 {
-    (number_of(r) as u64) + 256 * (length_with(r) as u64)
+    (number_of(r) as u64) + 256 * (value_with(r) as u64)
 }
 
 // The number of a refusal in the low eight bits, and a length in the others.

@@ -4,6 +4,7 @@ use libc::STDERR_FILENO;
 use libc::STDIN_FILENO;
 use libc::STDOUT_FILENO;
 use outcomes::refusing::put_refusal;
+use pointing::point_at;
 use refusals::Refusal;
 use session::Opened;
 use session::opening::open_sheet;
@@ -11,6 +12,8 @@ use session::records::put_record;
 use session::walking::first_record;
 use session::walking::next_record;
 ghost use Rattle.session.specs.Walking.{Ready, Lies};
+
+mod pointing;
 
 fn main() {
     // one byte more than a sheet may have, so that a longer input is known for one
@@ -24,15 +27,15 @@ fn write_output(d: &[u8]) {
     let opened = open_sheet(d, &mut cells);
     match opened {
         Opened::Open(n) => write_records(d, &cells, n),
-        Opened::Refused(r) => write_refusal(r),
+        Opened::Refused(r) => write_refusal(d, r),
     }
 }
 
-fn write_refusal(r: Refusal) {
+fn write_refusal(d: &[u8], r: Refusal) {
     let mut line = [0u8; 5];
     let n = put_refusal(r, &mut line, 0);
     written(&line[..n]);
-    explain(r);
+    explain(d, r);
 }
 
 fn write_records(d: &[u8], cells: &[usize], n: usize)
@@ -64,7 +67,7 @@ fn written(bytes: &[u8]) -> bool {
 }
 
 // Why the whole sheet is refused. The others are refusals of a record.
-fn explain(r: Refusal) {
+fn explain(d: &[u8], r: Refusal) {
     match r {
         Refusal::TemplateTooLong => say(
             b"the sheet is refused, 1: its template has more than 1,024 bytes\n",
@@ -90,6 +93,7 @@ fn explain(r: Refusal) {
         Refusal::NotASheet => say(
             b"the sheet is refused, 15: it is not laid out as one, has an unknown settings bit, or has more than 65,536 bytes\n",
         ),
+        Refusal::Dropped(p) => point_at(d, p),
         Refusal::FieldTooLong => say(b""),
         Refusal::FieldNotUtf8 => say(b""),
         Refusal::LineTooLong(_) => say(b""),

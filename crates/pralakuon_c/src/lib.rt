@@ -9,9 +9,8 @@ use visible::visible_text;
 ghost use mathlib.Core.Path.{_≡_};
 ghost use Prim.Native.Nat.{_*_};
 ghost use lib.ListN.{length};
-ghost use Rattle.template.specs.Template.{readTemplate};
 ghost use Rattle.answer.specs.Answers.{inRoom, Meets, lineEntry};
-ghost use Rattle.checking.specs.Templates.{checkOf, timestampOf};
+ghost use Rattle.checking.specs.Templates.{checkEntry, timestampEntry};
 ghost use Rattle.outcomes.specs.Program.{sessionEntry};
 ghost use Rattle.builtin.specs.Choices.{chosen};
 ghost use Rattle.visible.specs.Visible.{visibleEntry};
@@ -20,7 +19,7 @@ ghost use Rattle.pralakuon_c.specs.Version.{version};
 // The same three numbers stand in include/pralakuon.h and in host/Cargo.toml.
 const MAJOR: u64 = 0;
 
-const MINOR: u64 = 3;
+const MINOR: u64 = 4;
 
 const PATCH: u64 = 0;
 
@@ -40,20 +39,20 @@ pub extern "C" fn pralakuon_session(d: &[u8], out: &mut [u8]) -> u64
     pack(session(d, out))
 }
 
-// Whether the template t is read.
+// Whether the template t is read, in the edition that the settings ask for.
 #[no_mangle]
-pub extern "C" fn pralakuon_check(t: &[u8]) -> u64
-    ensures { λ r. ⌜ r ≡ checkOf (readTemplate (now (t .entry))) ⌝ }
+pub extern "C" fn pralakuon_check(t: &[u8], settings: u8) -> u64
+    ensures { λ r. ⌜ r ≡ checkEntry (now (t .entry)) settings ⌝ }
 {
-    check_template(t)
+    check_template(t, settings)
 }
 
 // Whether it names the time.
 #[no_mangle]
-pub extern "C" fn pralakuon_timestamp(t: &[u8]) -> u64
-    ensures { λ r. ⌜ r ≡ timestampOf (readTemplate (now (t .entry))) ⌝ }
+pub extern "C" fn pralakuon_timestamp(t: &[u8], settings: u8) -> u64
+    ensures { λ r. ⌜ r ≡ timestampEntry (now (t .entry)) settings ⌝ }
 {
-    names_timestamp(t)
+    names_timestamp(t, settings)
 }
 
 // A built-in template.

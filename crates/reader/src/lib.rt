@@ -88,7 +88,7 @@ fn parse_log_segment(
     }
 }
 
-fn separator_of(even: bool) -> u8
+pub fn separator_of(even: bool) -> u8
     ensures { λ r. ⌜ r ≡ separator even ⌝ }
 {
     if even { b'%' } else { b':' }

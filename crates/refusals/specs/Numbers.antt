@@ -1,7 +1,7 @@
--- "Numbers given instead of a line" (document 01): the number of each refusal, and the one length that is returned. Assumes nothing.
+-- "Numbers given instead of a line" (document 01; 17 of document 02): the number of each refusal, and the length or place that comes with it. Assumes nothing.
 use Prim.Native.Nat.{ℕ}
 use Rattle.refusals.specs.declared.Refusal.{Refusal}
-use Rattle.refusals.specs.declared.Refusal.the-variants.{TemplateTooLong, TemplateNotUtf8, Failure, NoMessage, TooManySegments, TooDeep, TooWide, TooManyF, HalfEscape, FieldTooLong, FieldNotUtf8, LineTooLong, NotARecord, NotASheet}
+use Rattle.refusals.specs.declared.Refusal.the-variants.{TemplateTooLong, TemplateNotUtf8, Failure, NoMessage, TooManySegments, TooDeep, TooWide, TooManyF, HalfEscape, FieldTooLong, FieldNotUtf8, LineTooLong, NotARecord, NotASheet, Dropped}
 
 -- the number of each refusal, with the sentence that says when it is given
 abbrev pub number : Refusal → ℕ
@@ -34,20 +34,23 @@ number (LineTooLong n) = 13
 number NotARecord = 14
 -- "sheet over 65,536 bytes, or not laid out exactly as the sheet section says"
 number NotASheet = 15
+-- "bytes dropped or a parameter lost, with the place (from 0) of the first dropped byte or, if it comes earlier, of the lost parameter" (document 02, E5)
+number (Dropped p) = 17
 
--- "13 also the length; no other refusal returns one"
-abbrev pub lengthWith : Refusal → ℕ
-lengthWith TemplateTooLong = 0
-lengthWith TemplateNotUtf8 = 0
-lengthWith Failure = 0
-lengthWith NoMessage = 0
-lengthWith TooManySegments = 0
-lengthWith TooDeep = 0
-lengthWith TooWide = 0
-lengthWith TooManyF = 0
-lengthWith HalfEscape = 0
-lengthWith FieldTooLong = 0
-lengthWith FieldNotUtf8 = 0
-lengthWith (LineTooLong n) = n
-lengthWith NotARecord = 0
-lengthWith NotASheet = 0
+-- "13 also the length; no other refusal returns one"; 17 returns "the place (from 0)"
+abbrev pub valueWith : Refusal → ℕ
+valueWith TemplateTooLong = 0
+valueWith TemplateNotUtf8 = 0
+valueWith Failure = 0
+valueWith NoMessage = 0
+valueWith TooManySegments = 0
+valueWith TooDeep = 0
+valueWith TooWide = 0
+valueWith TooManyF = 0
+valueWith HalfEscape = 0
+valueWith FieldTooLong = 0
+valueWith FieldNotUtf8 = 0
+valueWith (LineTooLong n) = n
+valueWith NotARecord = 0
+valueWith NotASheet = 0
+valueWith (Dropped p) = p

@@ -1,7 +1,7 @@
-// What is given instead of a line: document 01's refusals by name, and their numbers.
+// What is given instead of a line: the refusals of documents 01 and 02 by name, and their numbers.
 ghost use mathlib.Core.Path.{_≡_};
 ghost use Prim.Native.Nat.{_≤_};
-ghost use Rattle.refusals.specs.Numbers.{number, lengthWith};
+ghost use Rattle.refusals.specs.Numbers.{number, valueWith};
 
 pub enum Refusal {
     TemplateTooLong,
@@ -18,11 +18,12 @@ pub enum Refusal {
     LineTooLong(usize),
     NotARecord,
     NotASheet,
+    Dropped(usize),
 }
 
 // The number of a refusal.
 pub fn number_of(r: Refusal) -> u8
-    ensures { λ n. ⌜ (n ≡ number r) × (n ≤ 15) ⌝ }
+    ensures { λ n. ⌜ (n ≡ number r) × (n ≤ 17) ⌝ }
 {
     match r {
         Refusal::TemplateTooLong => 1,
@@ -39,12 +40,13 @@ pub fn number_of(r: Refusal) -> u8
         Refusal::LineTooLong(_) => 13,
         Refusal::NotARecord => 14,
         Refusal::NotASheet => 15,
+        Refusal::Dropped(_) => 17,
     }
 }
 
-// The length that a refusal tells: only that of a line that is too long.
-pub fn length_with(r: Refusal) -> usize
-    ensures { λ n. ⌜ n ≡ lengthWith r ⌝ }
+// What a refusal tells besides its number: the length of a line that is too long, the place of what a template drops.
+pub fn value_with(r: Refusal) -> usize
+    ensures { λ n. ⌜ n ≡ valueWith r ⌝ }
 {
     match r {
         Refusal::TemplateTooLong => 0,
@@ -61,5 +63,6 @@ pub fn length_with(r: Refusal) -> usize
         Refusal::LineTooLong(n) => n,
         Refusal::NotARecord => 0,
         Refusal::NotASheet => 0,
+        Refusal::Dropped(p) => p,
     }
 }

@@ -10,9 +10,10 @@ use Rattle.buffer.proofs.Writing.{put-put}
 use Rattle.buffer.specs.Bytes.{part}
 use Rattle.buffer.specs.Table.{some}
 use Rattle.refusals.specs.declared.Refusal.{Refusal}
-use Rattle.refusals.specs.Numbers.{lengthWith}
+use Rattle.refusals.specs.Numbers.{valueWith}
 use Rattle.segments.specs.Segments.{LogSegments}
-use Rattle.template.specs.Template.{read, refusal, readTemplate}
+use Rattle.template.specs.declared.Edition.{Edition}
+use Rattle.template.specs.Template.{Template, read, refusal, readBy}
 use Rattle.record.specs.Layout.{u32, rightSize, laidOut}
 use Rattle.sheet.specs.Sheets.{Sheet, bodyCount, contentsEnd, bodiesFrom, isSheet, sheetOf, allLaidOut}
 use Rattle.sheet.proofs.Standing.{stands, sheet-some, sheet-none}
@@ -25,10 +26,9 @@ use Rattle.segments.specs.Pool.{chainAt}
 use Rattle.session.specs.declared.Opened.{Opened}
 use Rattle.session.specs.declared.walking.Walk.{Walk}
 use Rattle.answer.specs.Answers.{line, refused, inRoom, recordOutcome}
-use Rattle.settings.specs.Bits.{settingsOf}
+use Rattle.settings.specs.Bits.{isKnown, settingsOf, editionOf}
 use Rattle.outcomes.proofs.Answered.{outcome-most}
-use Rattle.answer.proofs.Answering.{read-short}
-use Rattle.template.proofs.Refusing.{template-refuses, unsized}
+use Rattle.template.proofs.Refusing.{read-short, refused-by, small-value}
 use Rattle.outcomes.specs.Program.{lineRoom, outcomeLine, recordLines, sheetText, maybeSheetText, sessionText, fitting, sessionOutcome, refusalLine, asOutput, output}
 use Rattle.session.specs.Walking.{openedBy, opening, tellOpened, OpenedKeeps, templateIn, recordsFrom, Ready, Lies, walkFrom, walkOn, Standing, outcomeAt, lineAt, linesFrom, linesLeft, allLines}
 
@@ -44,7 +44,7 @@ pub record Headed (d : List ℕ) : Type 0 where
   pub long : 6 ≤ length d
   pub end : recordsFrom d ≤ length d
   pub byte : contentsEnd d + 1 ≤ recordsFrom d
-  pub settings : getD d (contentsEnd d) 0 < 4
+  pub settings : isKnown (getD d (contentsEnd d) 0) ≡ true
   pub short : length d ≤ 65536
 
 pub headed-at : (d : List ℕ) → isSheet d ≡ true → Headed d
@@ -151,7 +151,11 @@ pub opening-none : (d : List ℕ) → isSheet d ≡ false → opening d ≡ refu
 unfolding opening openedBy
 opening-none d e = ap openedBy (sheet-none d e)
 
-pub opening-some : (d : List ℕ) → isSheet d ≡ true → opening d ≡ readTemplate (templateIn d)
+-- its template in the edition that its settings byte asks for
+abbrev pub readIn : List ℕ → Template
+readIn d = readBy (editionOf (getD d (contentsEnd d) 0)) (templateIn d)
+
+pub opening-some : (d : List ℕ) → isSheet d ≡ true → opening d ≡ readIn d
 unfolding opening openedBy
 opening-some d e = ap openedBy (sheet-in d e)
 
@@ -167,29 +171,34 @@ text-lines d s e r =
     ∙ ap (sheetText (sheetIn d)) (sym (opening-some d e) ∙ r)
     ∙ ap line (lines-are d s (bodyCount d - 1) 6 (recordsFrom d))
 
--- a refusal of the whole sheet tells no length
-text-refused : (d : List ℕ) (r : Refusal) (b : Bool) → isSheet d ≡ b → opening d ≡ refusal r → (sessionText d ≡ refused r) × (lengthWith r ≡ 0)
+-- what comes with a refusal of the whole sheet is small
+text-refused : (d : List ℕ) (r : Refusal) (b : Bool) → isSheet d ≡ b → opening d ≡ refusal r → (sessionText d ≡ refused r) × (valueWith r ≤ 1024)
 unfolding sessionText maybeSheetText sheetText
 text-refused d r true e o =
     let t = sym (opening-some d e) ∙ o in
-    (ap maybeSheetText (sheet-in d e) ∙ ap (sheetText (sheetIn d)) t, unsized r (template-refuses (templateIn d) r t))
+    (ap maybeSheetText (sheet-in d e) ∙ ap (sheetText (sheetIn d)) t, small-value _ r (refused-by (editionOf (getD d (contentsEnd d) 0)) (templateIn d) r t))
 text-refused d r false e o =
     let f : Refusal.NotASheet ≡ r = cc (opening-none d e) in
-    (ap maybeSheetText (sheet-none d e) ∙ ap refused f, ap lengthWith (sym f))
+    let v : valueWith r ≡ 0 = ap valueWith (sym f) in
+    (ap maybeSheetText (sheet-none d e) ∙ ap refused f, omega (arith, v))
 
 -- ---- the bodies, as the code has them
 
-module _ (d cells t : List ℕ) (r : Parsed) (sheet : isSheet d ≡ true) (is-template : t ≡ templateIn d) (told : tellParsed r cells ≡ readTemplate t) where
+module _ (d cells t : List ℕ) (x : Edition) (r : Parsed) (sheet : isSheet d ≡ true) (is-template : t ≡ templateIn d) (is-edition : x ≡ editionOf (getD d (contentsEnd d) 0))
+    (told : tellParsed r cells ≡ readBy x t) where
+  reads-in : readBy x t ≡ readIn d
+  reads-in = λ k. readBy (is-edition k) (is-template k)
+
   pub opens : (n : ℕ) → 512 ≤ length cells → ParsedKeeps cells r → r ≡ Parsed.Read n → (tellOpened (Opened.Open n) cells ≡ opening d) × Ready d cells n
   unfolding tellOpened tellParsed
   opens n pool keeps e =
-      let p : read (chainAt cells n) ≡ readTemplate (templateIn d) = ap (λ (x : Parsed). tellParsed x cells) (sym e) ∙ told ∙ ap readTemplate is-template in
+      let p : read (chainAt cells n) ≡ readIn d = ap (λ (x : Parsed). tellParsed x cells) (sym e) ∙ told ∙ reads-in in
       let k : ParsedKeeps cells (Parsed.Read n) = subst (λ (x : Parsed). ParsedKeeps cells x) e keeps in
-      (p ∙ sym (opening-some d sheet), record { sheet = sheet; pool = pool; keeps = k; short = read-short (templateIn d) (chainAt cells n) (sym p) })
+      (p ∙ sym (opening-some d sheet), record { sheet = sheet; pool = pool; keeps = k; short = read-short (editionOf (getD d (contentsEnd d) 0)) (templateIn d) (chainAt cells n) (sym p) })
 
   pub refuses : (q : Refusal) → r ≡ Parsed.Refused q → tellOpened (Opened.Refused q) cells ≡ opening d
   unfolding tellOpened tellParsed
-  refuses q e = ap (λ (x : Parsed). tellParsed x cells) (sym e) ∙ told ∙ ap readTemplate is-template ∙ sym (opening-some d sheet)
+  refuses q e = ap (λ (x : Parsed). tellParsed x cells) (sym e) ∙ told ∙ reads-in ∙ sym (opening-some d sheet)
 
 module _ (d : List ℕ) (i j : ℕ) (t x : List ℕ) (is-template : t ≡ templateIn d) (is-record : x ≡ part j (j + u32 d i) d) where
   pub asked : (cells : List ℕ) (n : ℕ) → Ready d cells n → Lies d i j
@@ -223,7 +232,7 @@ module _ (d cells : List ℕ) (r : Opened) where
       ap (fitting room) (text-lines d (chainAt cells n) (k .sheet) (sym told ∙ ap (λ (x : Opened). tellOpened x cells) e))
 
   pub whole-refused : (q : Refusal) → r ≡ Opened.Refused q → tellOpened r cells ≡ opening d → (room : ℕ)
-      → (sessionOutcome d room ≡ refused q) × (lengthWith q ≡ 0)
+      → (sessionOutcome d room ≡ refused q) × (valueWith q ≤ 1024)
   unfolding tellOpened sessionOutcome fitting
   whole-refused q e told room =
       let t = text-refused d q (isSheet d) refl (sym told ∙ ap (λ (x : Opened). tellOpened x cells) e) in

@@ -9,11 +9,11 @@ use Rattle.buffer.specs.Table.{Maybe, none, some}
 use Rattle.refusals.specs.declared.Refusal.{Refusal}
 use Rattle.segments.specs.Segments.{LogSegments}
 use Rattle.segments.specs.Pool.{chainAt}
-use Rattle.template.specs.Template.{Template, read, refusal, readTemplate}
+use Rattle.template.specs.Template.{Template, read, refusal, readBy}
 use Rattle.template.specs.Parsing.{ReadKeeps}
 use Rattle.record.specs.Layout.{u32, rightSize, laidOut}
 use Rattle.answer.specs.Answers.{Outcome, recordOutcome}
-use Rattle.settings.specs.Bits.{settingsOf}
+use Rattle.settings.specs.Bits.{settingsOf, editionOf}
 use Rattle.sheet.specs.Sheets.{Sheet, bodyCount, contentsEnd, bodiesFrom, bodyBytes, areRecords, isSheet, sheetOf}
 use Rattle.session.specs.declared.Opened.{Opened}
 use Rattle.session.specs.declared.walking.Walk.{Walk}
@@ -23,7 +23,7 @@ use Rattle.outcomes.specs.Program.{lineRoom, outcomeLine}
 
 unfoldable pub openedBy : Maybe Sheet → Template
 openedBy none = refusal Refusal.NotASheet
-openedBy (some h) = readTemplate (h .template)
+openedBy (some h) = readBy (editionOf (h .settings)) (h .template)
 
 -- refusal 15 of the whole sheet, or what its template gives
 unfoldable pub opening : List ℕ → Template

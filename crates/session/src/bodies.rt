@@ -1,6 +1,4 @@
 // The bodies of a sheet: body 0 has the settings and the template, each other one is a record.
-use colour::Settings;
-use settings::settings_of;
 use sheet::body_count;
 use sheet::body_length;
 ghost use mathlib.Core.Path.{_≡_};
@@ -9,7 +7,6 @@ ghost use Prim.Native.Nat.{_+_};
 ghost use lib.ListN.{getD};
 ghost use Rattle.buffer.specs.Bytes.{part};
 ghost use Rattle.record.specs.Layout.{u32};
-ghost use Rattle.settings.specs.Bits.{settingsOf};
 ghost use Rattle.sheet.specs.Sheets.{isSheet, contentsEnd};
 ghost use Rattle.session.specs.Walking.{templateIn, recordsFrom, Lies};
 
@@ -29,13 +26,13 @@ pub(crate) fn records_from(d: &[u8]) -> usize
     contents_end(d) + body_length(d, 2)
 }
 
-// The settings: the first byte of body 0.
-pub(crate) fn settings_in(d: &[u8]) -> Settings
+// The settings byte: the first of body 0.
+pub(crate) fn settings_in(d: &[u8]) -> u8
     requires { ⌜ isSheet (now d) ≡ true ⌝ }
-    ensures { λ r. ⌜ r ≡ settingsOf (getD (now (d .entry)) (contentsEnd (now (d .entry))) 0) ⌝ }
+    ensures { λ r. ⌜ r ≡ getD (now (d .entry)) (contentsEnd (now (d .entry))) 0 ⌝ }
 {
     let head = contents_end(d);
-    settings_of(d[head])
+    d[head]
 }
 
 // The template: the rest of body 0.

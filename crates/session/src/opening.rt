@@ -1,7 +1,9 @@
 // Opening a sheet: is it one, and is its template read?
 use super::Opened;
+use super::bodies::settings_in;
 use super::bodies::template_in;
 use refusals::Refusal;
+use settings::edition_of;
 use sheet::is_sheet;
 use template::Parsed;
 use template::parse;
@@ -19,7 +21,7 @@ pub fn open_sheet(d: &[u8], cells: &mut [usize]) -> Opened
     if !is_sheet(d) {
         return Opened::Refused(Refusal::NotASheet);
     }
-    let read = parse(template_in(d), cells);
+    let read = parse(edition_of(settings_in(d)), template_in(d), cells);
     match read {
         Parsed::Read(n) => Opened::Open(n),
         Parsed::Refused(r) => Opened::Refused(r),

@@ -4,6 +4,7 @@ use super::bodies::settings_in;
 use super::bodies::template_in;
 use outcomes::outcome_length;
 use outcomes::put_outcome;
+use settings::settings_of;
 ghost use mathlib.Core.Path.{_≡_};
 ghost use Prim.Native.Nat.{_+_, _≤_};
 ghost use lib.ListN.{length};
@@ -16,7 +17,13 @@ pub(crate) fn record_length(d: &[u8], cells: &[usize], n: usize, i: usize, j: us
     requires { ⌜ Ready (now d) (now cells) n × Lies (now d) i j ⌝ }
     ensures { λ r. ⌜ (r ≡ length (lineAt (now (d .entry)) (chainAt (now (cells .entry)) n) i j)) × (r ≤ 65537) ⌝ }
 {
-    outcome_length(cells, n, template_in(d), settings_in(d), record_in(d, i, j))
+    outcome_length(
+        cells,
+        n,
+        template_in(d),
+        settings_of(settings_in(d)),
+        record_in(d, i, j),
+    )
 }
 
 // Writes them at the place `at`, and returns the place after them.
@@ -37,7 +44,7 @@ pub fn put_record(
         cells,
         n,
         template_in(d),
-        settings_in(d),
+        settings_of(settings_in(d)),
         record_in(d, i, j),
         out,
         at,

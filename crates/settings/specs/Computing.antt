@@ -1,6 +1,6 @@
 -- Scaffolding, for proofs alone: what the definitions of this layer compute by, in one name: `unfolding computes` opens them all. Assumes nothing.
-use Rattle.settings.specs.Bits.{settingsOf}
+use Rattle.settings.specs.Bits.{isKnown, settingsOf, editionOf}
 
 unfoldable pub computes : Unit {0}
-unfolding settingsOf
+unfolding isKnown settingsOf editionOf
 computes = tt

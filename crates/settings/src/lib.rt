@@ -1,9 +1,17 @@
 // The settings byte.
 use colour::Settings;
+use template::Edition;
 ghost use mathlib.Core.Path.{_≡_};
-ghost use Rattle.settings.specs.Bits.{settingsOf};
+ghost use Rattle.settings.specs.Bits.{isKnown, settingsOf, editionOf};
 
-// The settings that a byte's known bits say.
+// Whether all bits of the byte are known.
+pub fn is_known(b: u8) -> bool
+    ensures { λ r. ⌜ r ≡ isKnown b ⌝ }
+{
+    b < 8
+}
+
+// How the byte's bits have lines coloured.
 pub fn settings_of(b: u8) -> Settings
     ensures { λ r. ⌜ r ≡ settingsOf b ⌝ }
 {
@@ -11,4 +19,14 @@ pub fn settings_of(b: u8) -> Settings
         colour: b % 2 == 1,
         straight: b / 2 % 2 == 1,
     }
+}
+
+// The edition of the template rules that the byte's bits choose.
+pub fn edition_of(b: u8) -> Edition
+    ensures { λ r. ⌜ r ≡ editionOf b ⌝ }
+{
+    if b / 4 % 2 == 1 {
+        return Edition::Strict;
+    }
+    Edition::First
 }

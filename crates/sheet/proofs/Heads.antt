@@ -4,12 +4,11 @@ use mathlib.Core.Bool.{true, false, _&&_}
 use mathlib.Core.List.{List, [], _∷_}
 use Prim.Native.Nat.{ℕ, suc, _+_, _≤_, _<_}
 use native.Mathlib.Omega.{arith}
-use lib.Dec.{ltb}
 use lib.ListN.{length, getD}
-use borrow.Author.Tests.{ltb-true}
 use Rattle.buffer.specs.Bytes.{part}
 use Rattle.buffer.proofs.Parts.{part-step, part-length}
 use Rattle.record.specs.Layout.{u32}
+use Rattle.settings.specs.Bits.{isKnown}
 use Rattle.sheet.specs.Sheets.{bodyCount, contentsEnd, bodiesFrom, bodies, isHead, areRecords, areBodies, isSheet, allLaidOut, headed, held}
 use Rattle.sheet.proofs.Standing.{both-true, stands}
 use Rattle.sheet.proofs.Walk.{Left, all-left, bodies-next, next-fits, next-left}
@@ -24,15 +23,15 @@ unfolding isHead
 no-byte [] e = refl
 no-byte (x ∷ b) e = absurd (omega (arith, e))
 
-pub first-byte : (b : List ℕ) → 0 < length b → isHead b ≡ ltb (getD b 0 0) 4
+pub first-byte : (b : List ℕ) → 0 < length b → isHead b ≡ isKnown (getD b 0 0)
 unfolding isHead
 first-byte [] h = absurd (omega (arith, h))
 first-byte (x ∷ b) h = refl
 
-pub is-head : (b : List ℕ) → isHead b ≡ true → (0 < length b) × (getD b 0 0 < 4)
+pub is-head : (b : List ℕ) → isHead b ≡ true → (0 < length b) × (isKnown (getD b 0 0) ≡ true)
 unfolding isHead
 is-head [] e = absurd (false-true e)
-is-head (x ∷ b) e = (omega arith, ltb-true x 4 e)
+is-head (x ∷ b) e = (omega arith, e)
 
 -- the settings are its first byte, the template is the rest
 pub headed-body : (d : List ℕ) (j e : ℕ) (records : List (List ℕ)) → j < e → e ≤ length d
@@ -52,7 +51,7 @@ bodies-split d n e = ap areBodies (bodies-next (bodyCount d) n d 2 (contentsEnd 
 pub record Head (d : List ℕ) (n : ℕ) : Type 0 where
   pub room : (6 ≤ length d) × (contentsEnd d + u32 d 2 ≤ length d)
   pub byte : 0 < u32 d 2
-  pub settings : getD d (contentsEnd d) 0 < 4
+  pub settings : isKnown (getD d (contentsEnd d) 0) ≡ true
   pub left : Left n d 6 (contentsEnd d + u32 d 2)
   pub records : areRecords (bodiesFrom n d 6 (contentsEnd d + u32 d 2)) ≡ true
 
@@ -68,7 +67,7 @@ module _ (d : List ℕ) (n : ℕ) (one-more : bodyCount d ≡ suc n) (sheet : is
       record {
         room = f;
         byte = b;
-        settings = omega (arith, h .1, e);
+        settings = ap isKnown (sym e) ∙ h .1;
         left = next-left (bodyCount d) n d 2 j one-more (all-left d sheet);
         records = t .1;
       }

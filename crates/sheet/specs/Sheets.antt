@@ -2,10 +2,11 @@
 use Prim.Native.Nat.{ℕ, zero, suc, _+_, _*_}
 use mathlib.Core.Bool.{Bool, true, false, _&&_}
 use mathlib.Core.List.{List, [], _∷_}
-use lib.Dec.{eqb, leb, ltb}
+use lib.Dec.{eqb, leb}
 use lib.ListN.{length}
 use Rattle.buffer.specs.Bytes.{part}
 use Rattle.buffer.specs.Table.{Maybe, none, some}
+use Rattle.settings.specs.Bits.{isKnown}
 use Rattle.record.specs.Layout.{u16, u32, rightSize, Laid, laidOut}
 
 -- ---- the bodies of a sheet
@@ -34,10 +35,10 @@ bodies d = bodiesFrom (bodyCount d) d 2 (contentsEnd d)
 
 -- ---- what makes a sheet
 
--- "Body 0: a settings byte (1 colour, 2 straight, others zero), then the template"; "A body 0 without a byte, an unknown settings bit .. is 15"
+-- "Body 0: a settings byte .., then the template"; "A body 0 without a byte, an unknown settings bit .. is 15"
 unfoldable pub isHead : List ℕ → Bool
 isHead [] = false
-isHead (settings ∷ template) = ltb settings 4
+isHead (settings ∷ template) = isKnown settings
 
 -- "or a record of the wrong size is 15"
 unfoldable pub areRecords : List (List ℕ) → Bool

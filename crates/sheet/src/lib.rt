@@ -2,6 +2,7 @@
 use record::layout::right_size;
 use record::numbers::u16_at;
 use record::numbers::u32_at;
+use settings::is_known;
 ghost use mathlib.Core.Path.{_≡_};
 ghost use Prim.Native.Nat.{_+_, _*_, _≤_, _<_, _^_};
 ghost use lib.ListN.{length};
@@ -76,7 +77,7 @@ fn is_head(body: &[u8]) -> bool
     if body.len() == 0 {
         return false;
     }
-    body[0] < 4
+    is_known(body[0])
 }
 
 // Whether n bodies are records of the right size: their lengths stand from the place `contents` on, they from the place `from` on.

@@ -1,16 +1,18 @@
 -- Which refusals a template can meet: reading meets 3 and 5 to 9, and a whole template 1, 2 and 4 besides. Assumes nothing.
-use Prim.Native.Nat.{ℕ, zero, suc, _+_, _-_, _≤_}
-use mathlib.Core.Path.{_≡_, refl, subst}
+use Prim.Native.Nat.{ℕ, zero, suc, _+_, _-_, _≤_, _<_}
+use mathlib.Core.Path.{_≡_, refl, ap, subst}
 use mathlib.Core.Bool.{Bool, true, false, not, _||_}
 use mathlib.Core.List.{List}
+use mathlib.Core.Logic.{_⊎_, inl, inr}
 use native.Mathlib.Omega.{arith}
 use lib.Dec.{leb, ltb}
 use lib.ListN.{length, replicate}
+use borrow.Author.Tests.{leb-true}
 use Rattle.buffer.specs.Bytes.{part, same}
 use Rattle.buffer.specs.Table.{Maybe, none, some, lookup}
 use Rattle.utf8.specs.Utf8.{valid}
 use Rattle.refusals.specs.declared.Refusal.{Refusal}
-use Rattle.refusals.specs.declared.Refusal.the-variants.{TemplateTooLong, TemplateNotUtf8, Failure, NoMessage, TooManySegments, TooDeep, TooWide, TooManyF, HalfEscape, FieldTooLong, FieldNotUtf8, LineTooLong, NotARecord, NotASheet}
+use Rattle.refusals.specs.declared.Refusal.the-variants.{TemplateTooLong, TemplateNotUtf8, Failure, NoMessage, TooManySegments, TooDeep, TooWide, TooManyF, HalfEscape, FieldTooLong, FieldNotUtf8, LineTooLong, NotARecord, NotASheet, Dropped}
 use Rattle.words.specs.declared.LogMetadata.{LogMetadata}
 use Rattle.words.specs.declared.Alignment.{Alignment}
 use Rattle.letters.specs.Marked.{marked}
@@ -25,8 +27,12 @@ use Rattle.braces.specs.declared.Closing.{Closing}
 use Rattle.braces.specs.Braces.{closing}
 use Rattle.building.specs.Reading.{Made, Reader, make, makeOr, textTo, textAt, plainByte, wordAt, innerAt, Taken, one, several, Content, oddItem, evenItem, built, noContent, itemAt, separator, contentAt, Group, percentAt, pieceAt, closed, noGroup, groupAt, braceTo, braceAt, insideAt, Top, topAt}
 use Rattle.building.specs.Reading as building
-use Rattle.template.specs.Template.{Template, read, refusal, withMessage, reading, ended, topLevel, readTemplate}
-use Rattle.refusals.specs.Numbers.{number, lengthWith}
+use Rattle.template.specs.Template.{Template, read, refusal, withMessage, reading, ended, topLevel, readTemplate, allUsed, readBy}
+use Rattle.refusals.specs.Numbers.{number, valueWith}
+use Rattle.letters.proofs.Marks.{marked-length}
+use Rattle.unused.specs.Unused.{firstOf, unusedIn}
+use Rattle.unused.proofs.Inside.{all-inside, first-inside}
+use Rattle.template.specs.declared.Edition.{Edition}
 
 -- ---- the refusals
 
@@ -46,6 +52,7 @@ ByReading FieldNotUtf8 = ⊥
 ByReading (LineTooLong n) = ⊥
 ByReading NotARecord = ⊥
 ByReading NotASheet = ⊥
+ByReading (Dropped p) = ⊥
 
 -- ---- attempts
 
@@ -276,6 +283,7 @@ to-nine FieldNotUtf8 h = absurd h
 to-nine (LineTooLong n) h = absurd h
 to-nine NotARecord h = absurd h
 to-nine NotASheet h = absurd h
+to-nine (Dropped p) h = absurd h
 
 abbrev Told : Template → Type 0
 Told (read s) = Unit {0}
@@ -307,7 +315,7 @@ pub template-refuses : (t : List ℕ) (r : Refusal) → readTemplate t ≡ refus
 template-refuses t r e = subst Told e (template-told t)
 
 -- and tells no length: of all refusals only that of a line that is too long does
-pub unsized : (r : Refusal) → number r ≤ 9 → lengthWith r ≡ 0
+pub unsized : (r : Refusal) → number r ≤ 9 → valueWith r ≡ 0
 unsized TemplateTooLong h = refl
 unsized TemplateNotUtf8 h = refl
 unsized Failure h = refl
@@ -322,3 +330,50 @@ unsized FieldNotUtf8 h = refl
 unsized (LineTooLong n) h = let z : ⊥ = omega arith in absurd z
 unsized NotARecord h = refl
 unsized NotASheet h = refl
+unsized (Dropped p) h = let z : ⊥ = omega arith in absurd z
+
+-- ---- by either edition
+
+-- a template that is read is short
+first-short : (t : List ℕ) (s : LogSegments) → readTemplate t ≡ read s → length t ≤ 1024
+unfolding readTemplate
+first-short t s e = by (leb (length t) 1024) refl _ e
+  where
+    by : (b : Bool) → leb (length t) 1024 ≡ b → (x : Template) → _≡_ {A = Template} (elim b [ true ↦ x | false ↦ refusal TemplateTooLong ]) (read s) → length t ≤ 1024
+    by true h x k = leb-true (length t) 1024 h
+    by false h x k = absurd (let z : _≡_ {A = ℕ} 0 1 = cc in let y : ⊥ = omega arith in y)
+
+-- what is read strictly was read
+pub used-read : (u : Maybe ℕ) (x : Template) (s : LogSegments) → allUsed u x ≡ read s → (x ≡ read s) × (u ≡ none)
+unfolding allUsed
+used-read none x s e = (e, refl)
+used-read (some p) (read x) s e = (cc, cc)
+used-read (some p) (refusal r) s e = (cc, cc)
+
+pub read-short : (edition : Edition) (t : List ℕ) (s : LogSegments) → readBy edition t ≡ read s → length t ≤ 1024
+unfolding readBy
+read-short Edition.First t s e = first-short t s e
+read-short Edition.Strict t s e = first-short t s (used-read (firstOf (unusedIn (marked t))) (readTemplate t) s e .0)
+
+-- 1 to 9; or 17, whose place lies in the template
+abbrev pub OfTemplate : ℕ → Refusal → Type 0
+OfTemplate n r = (number r ≤ 9) ⊎ ((p : ℕ) × (r ≡ Dropped p) × (p < n) × (n ≤ 1024))
+
+judged-told : (t : List ℕ) (x : Template) → ((r : Refusal) → x ≡ refusal r → number r ≤ 9) → ((s : LogSegments) → x ≡ read s → length t ≤ 1024)
+    → (u : Maybe ℕ) → ((p : ℕ) → u ≡ some p → p < length t) → (r : Refusal) → allUsed u x ≡ refusal r → OfTemplate (length t) r
+unfolding allUsed
+judged-told t x h l none g r e = inl (h r e)
+judged-told t (read s) h l (some p) g r e = inr (p, (let q : r ≡ Dropped p = cc in q), g p refl, l s refl)
+judged-told t (refusal k) h l (some p) g r e = inl (h r e)
+
+pub refused-by : (edition : Edition) (t : List ℕ) (r : Refusal) → readBy edition t ≡ refusal r → OfTemplate (length t) r
+unfolding readBy
+refused-by Edition.First t r e = inl (template-refuses t r e)
+refused-by Edition.Strict t r e =
+    judged-told t (readTemplate t) (template-refuses t) (first-short t) (firstOf (unusedIn (marked t)))
+    (λ p q. subst (λ (n : ℕ). p < n) (marked-length t) (first-inside (length (marked t)) (unusedIn (marked t)) (all-inside (marked t)) p q)) r e
+
+-- what comes with its number is small
+pub small-value : (n : ℕ) (r : Refusal) → OfTemplate n r → valueWith r ≤ 1024
+small-value n r (inl h) = let z = unsized r h in omega arith
+small-value n r (inr (p, q, h, l)) = let z : valueWith r ≡ p = ap valueWith q in omega arith

@@ -1,34 +1,31 @@
 -- The top level, one law for each case. Assumes nothing.
-use Prim.Native.Nat.{ℕ, zero, suc, _+_, _-_, _*_, _≤_, _<_}
+use Prim.Native.Nat.{ℕ, _+_, _-_, _*_, _≤_}
 use mathlib.Core.Path.{_≡_, refl, sym, ap, subst, _∙_}
-use mathlib.Core.Bool.{Bool, true, false, not}
+use mathlib.Core.Bool.{Bool, true, false}
 use mathlib.Core.List.{List}
 use native.Mathlib.Omega.{arith}
-use lib.Dec.{leb, ltb}
 use lib.ListN.{length, take}
 use lib.Seq.{take-at}
-use borrow.Author.Tests.{le-leb, lt-leb, le-ltb}
 use Rattle.buffer.specs.Buffer.{putAt}
-use Rattle.utf8.specs.Utf8.{valid}
 use Rattle.letters.specs.Marked.{marked}
 use Rattle.letters.proofs.Marks.{marked-length}
 use Rattle.refusals.specs.declared.Refusal.{Refusal}
-use Rattle.runs.specs.Runs.{stands, runEnd}
+use Rattle.runs.specs.Runs.{stands}
 use Rattle.words.specs.Trying.{Tried, fit, misfit, refused, _or-else_, _then_, repeated}
-use Rattle.words.proofs.Attempts.{or-else-fit, or-else-misfit, or-else-refused, then-fit, then-misfit, then-refused, repeated-fit, repeated-misfit, repeated-refused}
+use Rattle.words.proofs.Attempts.{or-else-fit, or-else-misfit, or-else-refused, then-fit, then-misfit, then-refused}
 use Rattle.segments.specs.declared.Wanted.{Wanted}
-use Rattle.segments.specs.Segments.{LogSegment, LogSegments, none, _and-then_, isLog, isWanted, namedAmong}
-use Rattle.segments.specs.Sizes.{size, sizes, Low, Lows}
-use Rattle.segments.specs.Pool.{segmentAt, chainAt, back, Sound}
+use Rattle.segments.specs.Segments.{LogSegments, none, _and-then_, isLog, isWanted, namedAmong}
+use Rattle.segments.specs.Sizes.{sizes, Lows}
+use Rattle.segments.specs.Pool.{segmentAt, chainAt}
 use Rattle.segments.proofs.Fronts.{chain-front}
 use Rattle.segments.proofs.Chains.{chain-none, chain-step}
 use Rattle.segments.proofs.Growing.{sound-none, sound-front, tidy-none, tidy-front}
 use Rattle.segments.proofs.Joining.{sizes-and-then, lows-and-then}
 use Rattle.building.specs.declared.Reading.{Reading}
 use Rattle.template.specs.declared.Parsed.{Parsed}
-use Rattle.building.specs.Reading.{Made, Reader, Top, textAt, braceAt, insideAt, withTop, topAt}
-use Rattle.template.specs.Template.{Template, read, refusal, withMessage, ended, topLevel, readTemplate, namesTimestamp}
-use Rattle.building.specs.Told.{lastMade, tell, Room, Fitted}
+use Rattle.building.specs.Reading.{Made, Top, textAt, braceAt, insideAt, withTop, topAt}
+use Rattle.template.specs.Template.{Template, withMessage, ended, topLevel, namesTimestamp}
+use Rattle.building.specs.Told.{lastMade, tell, Fitted}
 use Rattle.template.specs.Parsing.{tellParsed, ReadKeeps}
 use Rattle.building.proofs.Answers.{reading-fit, reading-misfit, reading-refused}
 use Rattle.lists.proofs.Grouped.{brace-past, text-past}
@@ -155,21 +152,6 @@ module _ (cells : List ℕ) (n : ℕ) (b : Bool) (q : b ≡ namedAmong (isWanted
 pub marked-front : (d t : List ℕ) → take (length t) (putAt d 0 (marked t)) ≡ marked t
 unfolding putAt
 marked-front d t = take-at (marked t) _ (length t) (marked-length t)
-
--- ---- a whole template
-
-module _ (t cells : List ℕ) where
-  pub too-long : 1024 < length t → tellParsed (Parsed.Refused Refusal.TemplateTooLong) cells ≡ readTemplate t
-  unfolding tellParsed readTemplate
-  too-long h = sym (rw (lt-leb (length t) 1024 h, readTemplate))
-
-  pub not-text : length t ≤ 1024 → valid t ≡ false → tellParsed (Parsed.Refused Refusal.TemplateNotUtf8) cells ≡ readTemplate t
-  unfolding tellParsed readTemplate
-  not-text h v = sym (rw (le-leb (length t) 1024 h, v, readTemplate))
-
-  pub is-read : length t ≤ 1024 → valid t ≡ true → (x : Template) → x ≡ topLevel (marked t) → x ≡ readTemplate t
-  unfolding readTemplate
-  is-read h v x q = q ∙ sym (rw (le-leb (length t) 1024 h, v, readTemplate))
 
 -- ---- pools that agree on the segments made
 

@@ -1,18 +1,27 @@
-// A whole template, under the crate's names (`parser.rs`).
+// A whole template, under the crate's names (`parser.rs`), by either edition of the rules.
 use building::Reading;
 use lists::parse_string_segment;
 use reader::parse_argument;
 use refusals::Refusal;
 use segments::Wanted;
+use unused::unused_in;
 ghost use mathlib.Core.Path.{_≡_};
-ghost use Prim.Native.Nat.{_+_, _≤_};
+ghost use mathlib.Core.List.{List};
+ghost use Prim.Native.Nat.{ℕ, _+_, _≤_};
 ghost use lib.ListN.{length};
 ghost use Rattle.letters.specs.Marked.{marked};
 ghost use Rattle.segments.specs.Pool.{chainAt};
 ghost use Rattle.building.specs.Reading.{topSegmentAt};
-ghost use Rattle.template.specs.Template.{withMessage, topLevel, readTemplate, namesTimestamp};
+ghost use Rattle.unused.specs.Looking.{WasRead};
+ghost use Rattle.template.specs.Template.{read, withMessage, topLevel, readBy, namesTimestamp};
 ghost use Rattle.building.specs.Told.{tell, Room, Keeps};
-ghost use Rattle.template.specs.Parsing.{tellParsed, ReadKeeps, ParsedKeeps};
+ghost use Rattle.template.specs.Parsing.{tellParsed, judgedBy, ReadKeeps, ParsedKeeps};
+
+// The rules that a template is read by: the strict ones refuse what the first read and leave something of it unused.
+pub enum Edition {
+    First,
+    Strict,
+}
 
 // A template that was read: how many segments it has. The last of them is the last of the top level.
 pub enum Parsed {
@@ -71,31 +80,63 @@ fn parse_all(t: &[u8], cells: &mut [usize]) -> Parsed
     format_contains_log_specifier(cells, n)
 }
 
+// The n segments that the first edition read, where the edition asked for reads them too. What is left unused is looked for only where it is asked, and after
+// the reading: every other refusal of a template comes first.
+fn if_all_used(edition: Edition, t: &[u8], n: usize) -> Parsed
+    requires { ⌜ (length (now t) ≤ 1024) × WasRead (now t) ⌝ }
+    ensures { λ r. ⌜ ((cells : List ℕ) → tellParsed r cells ≡ judgedBy edition (now (t .entry)) (read (chainAt cells n))) ⌝ }
+    ensures keeps { λ r. ⌜ ((cells : List ℕ) → ReadKeeps cells n → ParsedKeeps cells r) ⌝ }
+{
+    match edition {
+        Edition::First => Parsed::Read(n),
+        Edition::Strict => {
+            let p = unused_in(t);
+            if p < 1024 {
+                return Parsed::Refused(Refusal::Dropped(p));
+            }
+            Parsed::Read(n)
+        }
+    }
+}
+
+// A template as it is read, its letters marked.
+fn parse_by(edition: Edition, t: &[u8], cells: &mut [usize]) -> Parsed
+    requires { ⌜ (512 ≤ length (now cells)) × (length (now t) ≤ 1024) ⌝ }
+    ensures { λ r. ⌜ tellParsed r (now (cells .exit)) ≡ judgedBy edition (now (t .entry)) (topLevel (now (t .entry))) ⌝ }
+    ensures keeps { λ r. ⌜ ParsedKeeps (now (cells .exit)) r ⌝ }
+{
+    let o = parse_all(t, cells);
+    match o {
+        Parsed::Read(n) => if_all_used(edition, t, n),
+        Parsed::Refused(r) => Parsed::Refused(r),
+    }
+}
+
 // Bytes of a template that is read from a small copy: most are no longer.
 const SHORT: usize = 256;
 
 // A template with letters beyond ASCII is read from a copy in which they are marked: places in the copy are places in the template. A small copy is cleared
 // sooner. And where `mark_letters` is called at two places, the compiler leaves it alone: its table takes six times the stack of the copy, and is gone
 // before the reading begins.
-fn parse_marked(t: &[u8], cells: &mut [usize]) -> Parsed
+fn parse_marked(edition: Edition, t: &[u8], cells: &mut [usize]) -> Parsed
     requires { ⌜ (512 ≤ length (now cells)) × (length (now t) ≤ 1024) ⌝ }
-    ensures { λ r. ⌜ tellParsed r (now (cells .exit)) ≡ topLevel (marked (now (t .entry))) ⌝ }
+    ensures { λ r. ⌜ tellParsed r (now (cells .exit)) ≡ judgedBy edition (marked (now (t .entry))) (topLevel (marked (now (t .entry)))) ⌝ }
     ensures keeps { λ r. ⌜ ParsedKeeps (now (cells .exit)) r ⌝ }
 {
     let n = t.len();
     if n <= SHORT {
         let mut marks: [u8; 256] = [0; 256];
         letters::table::mark_letters(t, &mut marks);
-        return parse_all(&marks[..n], cells);
+        return parse_by(edition, &marks[..n], cells);
     }
     let mut marks: [u8; 1024] = [0; 1024];
     letters::table::mark_letters(t, &mut marks);
-    parse_all(&marks[..n], cells)
+    parse_by(edition, &marks[..n], cells)
 }
 
-pub fn parse(t: &[u8], cells: &mut [usize]) -> Parsed
+pub fn parse(edition: Edition, t: &[u8], cells: &mut [usize]) -> Parsed
     requires { ⌜ 512 ≤ length (now cells) ⌝ }
-    ensures { λ r. ⌜ tellParsed r (now (cells .exit)) ≡ readTemplate (now (t .entry)) ⌝ }
+    ensures { λ r. ⌜ tellParsed r (now (cells .exit)) ≡ readBy edition (now (t .entry)) ⌝ }
     ensures keeps { λ r. ⌜ ParsedKeeps (now (cells .exit)) r ⌝ }
 {
     if 1024 < t.len() {
@@ -103,15 +144,15 @@ pub fn parse(t: &[u8], cells: &mut [usize]) -> Parsed
     }
     // most templates are ASCII, and that is seen at a glance
     if utf8::is_ascii(t) {
-        return parse_all(t, cells);
+        return parse_by(edition, t, cells);
     }
     if !utf8::is_utf8(t) {
         return Parsed::Refused(Refusal::TemplateNotUtf8);
     }
     if letters::doubt::is_unmarked(t) {
-        return parse_all(t, cells);
+        return parse_by(edition, t, cells);
     }
-    parse_marked(t, cells)
+    parse_marked(edition, t, cells)
 }
 
 // Whether the segments name the time.

@@ -18,9 +18,14 @@ static const char *repeated(const char *before, const char *part, size_t count, 
     return text;
 }
 
+static uint64_t check_by(const char *template_, uint8_t settings)
+{
+    return pralakuon_check((const uint8_t *)template_, strlen(template_), settings);
+}
+
 static unsigned check(const char *template_)
 {
-    return pralakuon_refusal_of(pralakuon_check((const uint8_t *)template_, strlen(template_)));
+    return pralakuon_refusal_of(check_by(template_, PRALAKUON_PLAIN));
 }
 
 static unsigned check_depth(size_t depth)
@@ -146,7 +151,50 @@ static void settings(void)
                   "\033[1m[\033[31mERROR\033[0m\033[1m]\033[0m|"));
     CHECK(is_line(line_of(template_, PRALAKUON_COLOUR | PRALAKUON_STRAIGHT, &record, out), out,
                   "\033[1m[\033[31mERROR\033[0m\033[1m]  \033[0m|"));
-    CHECK(line_of(template_, 4, &record, out) == PRALAKUON_NOT_A_SHEET);
+    CHECK(is_line(line_of(template_, PRALAKUON_STRICT, &record, out), out, "[ERROR]  |"));
+    CHECK(line_of(template_, 2 * PRALAKUON_STRICT, &record, out) == PRALAKUON_NOT_A_SHEET);
+}
+
+static uint64_t timestamp_by(const char *template_, uint8_t settings)
+{
+    return pralakuon_timestamp((const uint8_t *)template_, strlen(template_), settings);
+}
+
+/* What a session answers to a sheet without records, whose template drops bytes from place 4 on. */
+static uint64_t session_by(uint8_t settings)
+{
+    uint8_t sheet[] = "\1\0\11\0\0\0?{s} %{t}";
+
+    sheet[6] = settings;
+    return pralakuon_session(sheet, sizeof sheet - 1, NULL, 0);
+}
+
+/* The bytes that are dropped without a word, and are not by strict settings; a bit that is unknown comes first. */
+static void strict(void)
+{
+    static const char template_[] = "{s} %{t}";
+    static uint8_t out[PRALAKUON_RECORD_ROOM];
+    const uint64_t dropped = 4 * 256 + PRALAKUON_DROPPED;
+    struct pralakuon_record record;
+    unsigned settings;
+
+    memset(&record, 0, sizeof record);
+    record.level = PRALAKUON_LEVEL_TRACE + 1; /* which would be refused, too */
+    for (settings = 0; settings < 256; settings++) {
+        const uint8_t byte = (uint8_t)settings;
+        const int strictly = (settings & PRALAKUON_STRICT) != 0;
+        const uint64_t refusal = settings >= 8 ? (uint64_t)PRALAKUON_NOT_A_SHEET : strictly ? dropped : 0;
+
+        CHECK(check_by(template_, byte) == refusal);
+        CHECK(timestamp_by(template_, byte) == refusal);
+        CHECK(session_by(byte) == refusal);
+        CHECK(line_of(template_, byte, &record, out) == (refusal ? refusal : (uint64_t)PRALAKUON_NOT_A_RECORD));
+        CHECK(all_are(out, PRALAKUON_RECORD_ROOM, PAINT));
+    }
+    CHECK(pralakuon_refusal_of(dropped) == 17 && pralakuon_place_of(dropped) == 4);
+    CHECK(check_by("{s} {t}", PRALAKUON_STRICT) == 0 && timestamp_by("{s} {t}", PRALAKUON_STRICT) == 256);
+    CHECK(check_by(repeated("{s}", "x", PRALAKUON_TEMPLATE_BYTES_MAX - 4, "%"), PRALAKUON_STRICT) ==
+          (PRALAKUON_TEMPLATE_BYTES_MAX - 1) * 256 + PRALAKUON_DROPPED);
 }
 
 /* What a session of a sheet of this size answers: one record, whose message fills the sheet up. Laid out by hand, since
@@ -231,6 +279,7 @@ int main(void)
     levels();
     sources();
     settings();
+    strict();
     sessions();
     visible();
     version();

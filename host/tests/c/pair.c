@@ -156,9 +156,9 @@ static void begun(struct pralakuon_text template_, size_t room, size_t size)
     uint8_t *out = painted(room, PAINT);
     struct pralakuon_sheet sheet;
 
-    CHECK(pralakuon_sheet_begin(&sheet, 3, template_, out, room) == PRALAKUON_SHEET_WRITTEN);
+    CHECK(pralakuon_sheet_begin(&sheet, 7, template_, out, room) == PRALAKUON_SHEET_WRITTEN);
     CHECK(sheet.bytes == out && sheet.size == size && sheet.records == 0);
-    CHECK(memcmp(out, "\1\0", 2) == 0 && out[6] == 3);
+    CHECK(memcmp(out, "\1\0", 2) == 0 && out[6] == 7);
     CHECK(out[2] + 256u * out[3] == size - 6 && out[4] == 0 && out[5] == 0);
     CHECK(all_are(out + 7, size - 7, 'x') && all_are(out + size, room - size, PAINT));
     free(out);
@@ -182,8 +182,8 @@ static void beginnings(void)
     not_begun(PRALAKUON_SHEET_TOO_SMALL, 0, of_length(65530), SHEET);
     not_begun(PRALAKUON_SHEET_TOO_SMALL, 0, of_length(65530), SHEET + 9);
     not_begun(PRALAKUON_SHEET_TOO_SMALL, 0, of_length(SIZE_MAX), SHEET);
-    not_begun(PRALAKUON_SHEET_UNKNOWN_SETTINGS, 4, of_length(0), 7);
-    not_begun(PRALAKUON_SHEET_UNKNOWN_SETTINGS, 128 | 3, of_length(0), 7);
+    not_begun(PRALAKUON_SHEET_UNKNOWN_SETTINGS, 8, of_length(0), 7);
+    not_begun(PRALAKUON_SHEET_UNKNOWN_SETTINGS, 128 | 7, of_length(0), 7);
 }
 
 /* A push that is answered with anything but 0 leaves memory and sheet as they were. */
@@ -263,10 +263,11 @@ static void unknown_numbers(void)
 {
     unsigned number;
 
-    for (number = 16; number < 300; number++)
+    for (number = 18; number < 300; number++)
         CHECK(strcmp(pralakuon_refusal_text(number), "an unknown refusal") == 0);
-    /* 10 is no longer given. */
+    /* 10 is no longer given, and 16 not yet. */
     CHECK(strcmp(pralakuon_refusal_text(10), "an unknown refusal") == 0);
+    CHECK(strcmp(pralakuon_refusal_text(16), "an unknown refusal") == 0);
     for (number = 6; number < 300; number++)
         CHECK(strcmp(pralakuon_level_name(number), "an unknown level") == 0);
     CHECK(strcmp(pralakuon_refusal_text(UINT_MAX), "an unknown refusal") == 0);
@@ -338,7 +339,7 @@ static int print_texts(void)
 {
     unsigned number;
 
-    for (number = 0; number <= 15; number++)
+    for (number = 0; number <= PRALAKUON_DROPPED; number++)
         puts(pralakuon_refusal_text(number));
     for (number = 0; number <= 5; number++)
         puts(pralakuon_level_name(number));

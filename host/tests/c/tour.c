@@ -28,17 +28,33 @@ static void show_version(void)
     puts(pralakuon_fits() ? "which fits this header" : "which does not fit this header");
 }
 
-static void show_template(const char *template_)
+/* A caret under a place of a template that is one line. A character has one column and begins with any byte but 0x80 to
+ * 0xBF. */
+static void point_at(const char *template_, size_t place)
+{
+    puts(template_);
+    for (size_t i = 0; i < place; i++)
+        if (((uint8_t)template_[i] & 0xc0) != 0x80)
+            putchar(' ');
+    puts("^");
+}
+
+static void show_template(const char *template_, uint8_t settings)
 {
     const uint8_t *bytes = (const uint8_t *)template_;
-    unsigned refusal = pralakuon_refusal_of(pralakuon_check(bytes, strlen(template_)));
+    uint64_t answer = pralakuon_check(bytes, strlen(template_), settings);
+    unsigned refusal = pralakuon_refusal_of(answer);
 
-    if (refusal) {
+    if (refusal == PRALAKUON_DROPPED) {
+        size_t place = (size_t)pralakuon_place_of(answer);
+        printf("refused, %u: %s, first at byte %zu:\n", refusal, pralakuon_refusal_text(refusal), place);
+        point_at(template_, place);
+    } else if (refusal) {
         printf("%s is refused, %u: %s\n", template_, refusal, pralakuon_refusal_text(refusal));
-        return;
+    } else {
+        uint64_t names = pralakuon_length_of(pralakuon_timestamp(bytes, strlen(template_), settings));
+        printf("%s is read and names %s\n", template_, names ? "the time" : "no time");
     }
-    uint64_t names = pralakuon_length_of(pralakuon_timestamp(bytes, strlen(template_)));
-    printf("%s is read and names %s\n", template_, names ? "the time" : "no time");
 }
 
 static void show_builtin(uint8_t style, uint8_t location, uint8_t timestamp, uint8_t host)
@@ -123,9 +139,11 @@ int main(void)
     };
 
     show_version();
-    show_template("[{L}] {s}");
-    show_template("{t} {s}");
-    show_template("{t}");
+    show_template("[{L}] {s}", PRALAKUON_PLAIN);
+    show_template("{t} {s}", PRALAKUON_PLAIN);
+    show_template("{t}", PRALAKUON_PLAIN);
+    show_template("{s} %{t}", PRALAKUON_PLAIN); /* the % was mistyped, and the time is dropped without a word */
+    show_template("{s} %{t}", PRALAKUON_STRICT);
     show_builtin(PRALAKUON_STYLE_DEFAULT, 0, 1, 0);
     show_builtin(PRALAKUON_STYLE_ONE_LINE, 0, 0, 1);
     show_line("[{L}] {f}:{l:1} {s}", PRALAKUON_PLAIN, &records[0], 26);

@@ -26,8 +26,8 @@ macro_rules! entry {
 
 entry!(pralakuon_line, *const u8, usize, u8, *const u8, usize, *mut u8, usize);
 entry!(pralakuon_session, *const u8, usize, *mut u8, usize);
-entry!(pralakuon_check, *const u8, usize);
-entry!(pralakuon_timestamp, *const u8, usize);
+entry!(pralakuon_check, *const u8, usize, u8);
+entry!(pralakuon_timestamp, *const u8, usize, u8);
 entry!(pralakuon_builtin, u8, u8, u8, u8, *mut u8, usize);
 entry!(pralakuon_visible, *const u8, usize, *mut u8, usize);
 
@@ -65,8 +65,8 @@ fn answers(made: &Made, sheet: &Sheet) -> Vec<(&'static str, Refusal)> {
     let (device, host) = (Record::print("hello"), HostRecord::new(Level::Info, "hello"));
     let (mut text, mut bytes, mut out) = (String::new(), Vec::new(), [0; 9]);
     vec![
-        ("check", check(b"{s}").unwrap_err()),
-        ("names_timestamp", names_timestamp(b"{s}").unwrap_err()),
+        ("check", check(b"{s}", Settings::PLAIN).unwrap_err()),
+        ("names_timestamp", names_timestamp(b"{s}", Settings::PLAIN).unwrap_err()),
         ("line", line(b"{s}", Settings::PLAIN, &device, &mut out).unwrap_err()),
         ("session", session(&made.bytes).unwrap_err()),
         ("session_into", session_into(&made.bytes, &mut out).unwrap_err()),

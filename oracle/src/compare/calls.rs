@@ -3,33 +3,51 @@
 use super::lent::Lent;
 use pralakuon::entries;
 
-const TOO_LONG: u64 = 13;
+const TOO_LONG: u8 = 13;
+const DROPPED: u8 = 17;
 
 /// What an entry owes, whatever the room.
 #[derive(Clone, Debug, PartialEq)]
 pub enum Owed {
     Line(Vec<u8>),
     Refused(u8),
+    /// 17, and the place that comes with it.
+    Dropped(usize),
 }
 
 impl Owed {
-    /// The number, and what stands at the front of the buffer afterwards.
+    /// 0 for a line.
+    pub fn number(&self) -> u8 {
+        match self {
+            Owed::Line(_) => 0,
+            Owed::Refused(number) => *number,
+            Owed::Dropped(_) => DROPPED,
+        }
+    }
+
+    /// The answer, and what stands at the front of the buffer afterwards.
     fn in_room(&self, room: usize) -> (u64, &[u8]) {
         match self {
-            Owed::Line(line) if line.len() <= room => ((line.len() as u64) << 8, line),
-            Owed::Line(line) => ((line.len() as u64) << 8 | TOO_LONG, &[]),
-            Owed::Refused(number) => (u64::from(*number), &[]),
+            Owed::Line(line) if line.len() <= room => (packed(0, line.len()), line),
+            Owed::Line(line) => (packed(TOO_LONG, line.len()), &[]),
+            Owed::Refused(number) => (packed(*number, 0), &[]),
+            Owed::Dropped(place) => (packed(DROPPED, *place), &[]),
         }
     }
 
     /// On both sides of what a line needs; a refusal needs none.
     fn rooms(&self, more: usize) -> Vec<usize> {
         match self {
-            Owed::Refused(_) => vec![more, 0],
+            Owed::Refused(_) | Owed::Dropped(_) => vec![more, 0],
             Owed::Line(line) if line.is_empty() => vec![0, more],
             Owed::Line(line) => vec![line.len() + more, line.len(), line.len() - 1, 0],
         }
     }
+}
+
+/// An answer: a refusal's number or 0, and a value.
+fn packed(number: u8, value: usize) -> u64 {
+    u64::from(number) | (value as u64) << 8
 }
 
 type Held = Result<(), String>;
@@ -55,19 +73,21 @@ pub fn visible(text: &[u8], owed: Vec<u8>, more: usize) -> Held {
         .map_err(|parting| format!("visible of \"{}\", {parting}", text.escape_ascii()))
 }
 
-pub fn check(template: &[u8], refusal: Option<u8>) -> Held {
-    asked(template, entries::check, refusal.map_or(0, u64::from)).map_err(|parting| format!("check, {parting}"))
+/// Both entries that are lent a template and no buffer: `check`, and `timestamp`, which owes a yes or no. Either owes the
+/// refusal where there is one.
+pub fn check(template: &[u8], settings: u8, owed: Result<bool, Owed>) -> Held {
+    let answer = |named: bool| {
+        owed.as_ref().map_or_else(|refused| refused.in_room(0).0, |yes| packed(0, usize::from(*yes && named)))
+    };
+    asked(template, settings, entries::check, answer(false))
+        .map_err(|parting| format!("check, settings {settings}, {parting}"))?;
+    asked(template, settings, entries::timestamp, answer(true))
+        .map_err(|parting| format!("timestamp, settings {settings}, {parting}"))
 }
 
-pub fn timestamp(template: &[u8], named: Result<bool, u8>) -> Held {
-    let owed = named.map_or_else(u64::from, |yes| u64::from(yes) << 8);
-    asked(template, entries::timestamp, owed).map_err(|parting| format!("timestamp, {parting}"))
-}
-
-/// An entry that is lent no buffer.
-fn asked(template: &[u8], entry: fn(&[u8]) -> u64, owed: u64) -> Held {
+fn asked(template: &[u8], settings: u8, entry: fn(&[u8], u8) -> u64, owed: u64) -> Held {
     let lent = Lent::holding(template);
-    let answer = entry(lent.part());
+    let answer = entry(lent.part(), settings);
     if answer != owed {
         return Err(format!("answered {} and owed {}", in_words(answer), in_words(owed)));
     }
@@ -103,5 +123,5 @@ fn unchanged(lent: &[Lent], inputs: &[&[u8]]) -> Held {
 }
 
 fn in_words(answer: u64) -> String {
-    format!("refusal {} length {}", entries::refusal_of(answer), entries::length_of(answer))
+    format!("refusal {} value {}", entries::refusal_of(answer), entries::length_of(answer))
 }

@@ -2,15 +2,17 @@
 
 use super::calls::{self, Owed};
 use super::listed::Listed;
-use super::ruled::Ruled;
+use super::ruled::{Ruled, Strictly};
 use crate::ruling::{self, line::without_sequences};
-use crate::sheet::{Record, Sheet, COLOUR, STRAIGHT};
+use crate::sheet::{write_bodies, Record, Sheet, COLOUR, STRAIGHT, STRICT};
+use crate::strict;
 use crate::stub::format;
 use crate::tree::dump;
 use std::fmt;
 
 pub enum Case {
-    /// A template and a record, in every setting; `unknown` is a settings byte with a bit that is not known.
+    /// A template and a record, in every setting, by itself and as a sheet; `unknown` is a settings byte with a bit that is
+    /// not known.
     Line {
         template: Vec<u8>,
         record: Vec<u8>,
@@ -28,16 +30,8 @@ pub enum Case {
 pub struct Seen {
     /// Of each owed answer its number, 0 for a line.
     pub answers: Vec<u8>,
+    pub strictly: Vec<Strictly>,
     pub listed: Vec<Listed>,
-}
-
-impl Seen {
-    fn add(&mut self, owed: &Owed) {
-        self.answers.push(match owed {
-            Owed::Line(_) => 0,
-            Owed::Refused(number) => *number,
-        });
-    }
 }
 
 impl Case {
@@ -47,9 +41,8 @@ impl Case {
             Case::Line { template, record, unknown } => {
                 let ruled = Ruled::new(template, &mut seen.listed)?;
                 if !colour {
-                    calls::check(template, ruled.refusal())?;
-                    calls::timestamp(template, ruled.names_timestamp())?;
-                    calls::line(template, *unknown, record, &Owed::Refused(15), more)?;
+                    seen.strictly.push(ruled.seen());
+                    compare_unknown(*unknown, template, record, more)?;
                 }
                 compare_line(&ruled, template, record, colour, more, seen)
             }
@@ -72,6 +65,14 @@ impl Case {
     }
 }
 
+/// An unknown settings bit comes first, whatever template and record are.
+fn compare_unknown(settings: u8, template: &[u8], record: &[u8], more: usize) -> Result<(), String> {
+    let owed = Owed::Refused(15);
+    calls::check(template, settings, Err(owed.clone()))?;
+    calls::line(template, settings, record, &owed, more)?;
+    calls::session(&sheet_of(settings, template, record), &owed, more)
+}
+
 fn compare_line(
     ruled: &Ruled,
     template: &[u8],
@@ -80,20 +81,36 @@ fn compare_line(
     more: usize,
     seen: &mut Seen,
 ) -> Result<(), String> {
-    let owed = match Record::read(bytes) {
-        Some(record) => ruled.owed(&record, colour, &mut seen.listed)?,
-        None => [Owed::Refused(15), Owed::Refused(15)],
-    };
-    for (owed, mode) in owed.iter().zip([0, STRAIGHT]) {
-        let settings = if colour { mode | COLOUR } else { mode };
-        calls::line(template, settings, bytes, owed, more)?;
-        seen.add(owed);
+    let record = Record::read(bytes);
+    let lines = record.map(|record| ruled.owed(&record, colour, &mut seen.listed)).transpose()?;
+    let colour = if colour { COLOUR } else { 0 };
+    for settings in [0, STRAIGHT, STRICT, STRICT | STRAIGHT].map(|others| colour | others) {
+        calls::check(template, settings, ruled.names_timestamp(settings))?;
+        let owed = match (&lines, ruled.refusal(settings)) {
+            (None, _) => Owed::Refused(15),
+            (Some(_), Some(refusal)) => refusal,
+            (Some(lines), None) => lines[usize::from(settings & STRAIGHT != 0)].clone(),
+        };
+        calls::line(template, settings, bytes, &owed, more)?;
+        seen.answers.push(owed.number());
+        let sheet = sheet_of(settings, template, bytes);
+        let session = match (ruling::sheet(&sheet), ruled.refusal(settings)) {
+            (None, _) => Owed::Refused(15),
+            (Some(_), Some(refusal)) => refusal,
+            (Some(_), None) => Owed::Line(printed(&in_the_program(owed.clone()))),
+        };
+        calls::session(&sheet, &session, more)?;
         match owed {
-            Owed::Line(line) if colour => compare_visible(line, more)?,
+            Owed::Line(line) if colour != 0 && settings & STRICT == 0 => compare_visible(&line, more)?,
             _ => {}
         }
     }
     Ok(())
+}
+
+/// The sheet of this record alone, which may be of a wrong size.
+fn sheet_of(settings: u8, template: &[u8], record: &[u8]) -> Vec<u8> {
+    write_bodies(&[[&[settings], template].concat(), record.to_vec()])
 }
 
 /// The ruling knows texts only. A sequence is ASCII, so that any bytes may be given to it as the characters of the same
@@ -106,41 +123,56 @@ fn compare_visible(text: &[u8], more: usize) -> Result<(), String> {
 
 /// What a session call owes: a refusal of the whole sheet, or the lines of its records.
 fn session(sheet: Option<&Sheet>, seen: &mut Seen) -> Result<Owed, String> {
-    let whole = |number: u8, seen: &mut Seen| {
-        seen.add(&Owed::Refused(number));
-        Ok(Owed::Refused(number))
+    let whole = |refusal: Owed, seen: &mut Seen| {
+        seen.answers.push(refusal.number());
+        Ok(refusal)
     };
     let Some(sheet) = sheet else {
-        return whole(15, seen);
+        return whole(Owed::Refused(15), seen);
     };
     let ruled = Ruled::new(&sheet.template, &mut seen.listed)?;
-    if let Some(number) = ruled.refusal() {
-        return whole(number, seen);
+    seen.strictly.push(ruled.seen());
+    if let Some(refusal) = ruled.refusal(sheet.settings) {
+        return whole(refusal, seen);
     }
     let mut lines = Vec::new();
     for record in &sheet.records {
-        let owed = &ruled.owed(record, sheet.colour(), &mut seen.listed)?[usize::from(sheet.settings & STRAIGHT != 0)];
-        let owed = match owed {
-            Owed::Line(line) if line.len() > ruling::LINE_ROOM => &Owed::Refused(13),
-            owed => owed,
-        };
-        seen.add(owed);
-        match owed {
-            Owed::Line(line) => lines.extend([line, &b"\n"[..]].concat()),
-            Owed::Refused(number) => lines.extend(format!("! {number}\n").into_bytes()),
-        }
+        let [crates, straight] = ruled.owed(record, sheet.colour(), &mut seen.listed)?;
+        let owed = in_the_program(if sheet.settings & STRAIGHT != 0 { straight } else { crates });
+        seen.answers.push(owed.number());
+        lines.extend(printed(&owed));
     }
     Ok(Owed::Line(lines))
 }
 
-/// The words of a built-in are the crate's, and what the crate's own formatter reads of them is what is ruled.
+/// What a record gets in a sheet: the program's own buffer has an end.
+fn in_the_program(owed: Owed) -> Owed {
+    match owed {
+        Owed::Line(line) if line.len() > ruling::LINE_ROOM => Owed::Refused(13),
+        owed => owed,
+    }
+}
+
+fn printed(owed: &Owed) -> Vec<u8> {
+    match owed {
+        Owed::Line(line) => [line, &b"\n"[..]].concat(),
+        refusal => format!("! {}\n", refusal.number()).into_bytes(),
+    }
+}
+
+/// The words of a built-in are the crate's, and what the crate's own formatter reads of them is what is ruled, with nothing
+/// unused.
 fn compare_built_in(choice: [u8; 4], more: usize) -> Result<(), String> {
     let [oneline, location, timestamp, host] = choice.map(|byte| byte != 0);
     let suffix = if host { " (HOST)" } else { "" };
     let template = format::built_in(oneline, location, timestamp).to_string() + suffix;
-    let read = ruling::template(template.as_bytes()).map(|segments| dump(&segments));
-    if read != Ok(format::built_in_dump(oneline, location, timestamp, host)) {
+    let reading = ruling::template(template.as_bytes()).map_err(|number| format!("{template:?} is {number}"))?;
+    if dump(&reading.segments) != format::built_in_dump(oneline, location, timestamp, host) {
         return Err(format!("the crate's own formatter reads {template:?} otherwise"));
+    }
+    strict::judged(&template, &reading)?;
+    if reading.unused.place().is_some() {
+        return Err(format!("the strict edition refuses {template:?}"));
     }
     calls::built_in(choice, template.as_bytes(), more)
 }

@@ -3,6 +3,7 @@
 use super::case::Seen;
 use super::listed;
 use super::make::KINDS;
+use super::ruled::Strictly;
 use std::collections::{BTreeMap, BTreeSet};
 
 /// So many are printed in full.
@@ -12,7 +13,9 @@ const SHOWN: usize = 5;
 pub struct Found {
     kinds: [u64; KINDS.len()],
     /// Line calls and records of sheets by what they owe, 0 for a line.
-    answers: [u64; 16],
+    answers: [u64; 18],
+    /// Templates by what the strict edition makes of them.
+    strictly: [u64; Strictly::NAMES.len()],
     listed: [u64; listed::NAMES.len()],
     parted: BTreeSet<u64>,
     texts: BTreeMap<u64, String>,
@@ -25,6 +28,7 @@ impl Found {
 
     pub fn count(&mut self, seen: &Seen) {
         seen.answers.iter().for_each(|number| self.answers[usize::from(*number)] += 1);
+        seen.strictly.iter().for_each(|strictly| self.strictly[*strictly as usize] += 1);
         seen.listed.iter().for_each(|listed| self.listed[*listed as usize] += 1);
     }
 
@@ -39,6 +43,7 @@ impl Found {
         let sum = |into: &mut [u64], from: &[u64]| into.iter_mut().zip(from).for_each(|(into, from)| *into += from);
         sum(&mut self.kinds, &other.kinds);
         sum(&mut self.answers, &other.answers);
+        sum(&mut self.strictly, &other.strictly);
         sum(&mut self.listed, &other.listed);
         self.parted.extend(other.parted);
         for (index, text) in other.texts {
@@ -53,8 +58,9 @@ impl Found {
         }
         print_counts("case", &KINDS.map(str::to_string), &self.kinds);
         let answers: Vec<String> =
-            (0..16).map(|number| if number == 0 { "line".to_string() } else { format!("refusal {number}") }).collect();
+            (0..18).map(|number| if number == 0 { "line".to_string() } else { format!("refusal {number}") }).collect();
         print_counts("answer", &answers, &self.answers);
+        print_counts("strict edition", &Strictly::NAMES.map(str::to_string), &self.strictly);
         print_counts("listed difference", &listed::NAMES.map(str::to_string), &self.listed);
         println!("{count} cases, {} differences not listed", self.parted.len());
         self.parted.is_empty()

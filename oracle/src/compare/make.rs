@@ -9,24 +9,26 @@ mod paths;
 mod records;
 mod sheets;
 mod short;
+mod strict;
 mod texts;
+mod tokens;
 
 use super::case::Case;
 use crate::sample::cases;
 use crate::sample::random::Rng;
 use crate::sheet::{Record, Sheet};
 
-pub const KINDS: [&str; 8] =
-    ["short templates", "long templates", "records", "sheets", "boundaries", "built-ins", "texts", "letters"];
+pub const KINDS: [&str; 9] =
+    ["short templates", "long templates", "records", "sheets", "boundaries", "built-ins", "texts", "letters", "strict"];
 
 /// Places in `KINDS`. Short templates are cheap, and so many turns show all of up to five tokens in ten million cases.
 const TURNS: [usize; 64] = [
-    0, 1, 0, 2, 0, 3, 0, 0, 1, 0, 2, 0, 4, 0, 0, 7, 0, 2, 0, 0, 1, 0, 7, 0, 3, 0, 0, 1, 0, 2, 5, 0, //
-    0, 1, 0, 2, 0, 3, 0, 0, 1, 0, 2, 0, 4, 0, 0, 7, 0, 2, 0, 0, 1, 0, 7, 0, 3, 0, 0, 1, 0, 2, 6, 0,
+    0, 1, 0, 2, 0, 3, 0, 0, 8, 0, 2, 0, 4, 0, 0, 7, 0, 8, 0, 0, 1, 0, 7, 0, 3, 0, 0, 1, 0, 2, 5, 0, //
+    0, 1, 0, 2, 0, 3, 0, 0, 8, 0, 2, 0, 4, 0, 0, 7, 0, 8, 0, 0, 1, 0, 7, 0, 3, 0, 0, 1, 0, 2, 6, 0,
 ];
 
 /// Settings bytes with a bit that is not known.
-const UNKNOWN: &[&u8] = &[&4, &5, &6, &7, &8, &16, &32, &64, &128, &129, &131, &252, &255];
+const UNKNOWN: &[&u8] = &[&8, &9, &12, &15, &16, &20, &32, &64, &128, &129, &131, &135, &248, &252, &255];
 
 /// Widths beyond a block of 128 bytes, in which characters are counted.
 const WIDE: &[&str] =
@@ -39,7 +41,7 @@ pub fn path_count() -> u64 {
 
 pub fn path_case(index: u64) -> (usize, Case) {
     let record = paths::record(index).write();
-    (2, Case::Line { template: paths::template(index).into(), record, unknown: 4 })
+    (2, Case::Line { template: paths::template(index).into(), record, unknown: 8 })
 }
 
 /// How many cases there are of every four bytes at the edges of UTF-8, and each of them.
@@ -49,7 +51,7 @@ pub fn byte_count() -> u64 {
 
 pub fn byte_case(index: u64) -> (usize, Case) {
     let record = bytes::record(index).write();
-    (2, Case::Line { template: bytes::TEMPLATE.into(), record, unknown: 4 })
+    (2, Case::Line { template: bytes::TEMPLATE.into(), record, unknown: 8 })
 }
 
 /// How many cases there are of every character, and each of them.
@@ -59,7 +61,17 @@ pub fn letter_count() -> u64 {
 
 pub fn letter_case(index: u64) -> (usize, Case) {
     let record = letters::record().write();
-    (7, Case::Line { template: letters::nth_template(index).into(), record, unknown: 4 })
+    (7, Case::Line { template: letters::nth_template(index).into(), record, unknown: 8 })
+}
+
+/// How many cases there are of templates that leave something unused or nearly do, and each of them.
+pub fn strict_count() -> u64 {
+    strict::count()
+}
+
+pub fn strict_case(index: u64) -> (usize, Case) {
+    let record = short::record(index).write();
+    (8, Case::Line { template: strict::nth_template(index).into(), record, unknown: 8 })
 }
 
 pub struct Maker {
@@ -87,7 +99,8 @@ impl Maker {
             4 => self.boundary(&mut rng, nth as usize),
             5 => Case::BuiltIn(built_in(&mut rng, nth)),
             6 => Case::Text(texts::text(&mut rng)),
-            _ => with_letters(&mut rng),
+            7 => with_letters(&mut rng),
+            _ => strictly(&mut rng),
         };
         (kind, case)
     }
@@ -123,6 +136,13 @@ fn long_template(rng: &mut Rng) -> Case {
 fn with_letters(rng: &mut Rng) -> Case {
     let template = letters::template(rng);
     let record = rng.record().write();
+    line(rng, template, record)
+}
+
+/// 17 comes before whatever is wrong with the record.
+fn strictly(rng: &mut Rng) -> Case {
+    let template = strict::template(rng);
+    let record = if rng.one_in(4) { records::record(rng) } else { rng.record().write() };
     line(rng, template, record)
 }
 

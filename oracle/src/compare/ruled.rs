@@ -1,19 +1,35 @@
-//! A template as document 01 rules on it and the crate judges: the two are held against each other, and what the port
-//! owes comes out.
+//! A template as documents 01 and 02 rule on it and the crate judges: the two are held against each other, and what the
+//! port owes comes out.
 
 use super::calls::Owed;
 use super::listed::{self, Listed};
 use crate::judge::{self, Shown};
 use crate::kelvin;
-use crate::ruling;
 use crate::ruling::line::{without_sequences, Line};
-use crate::sheet::{Record, COLOUR, STRAIGHT};
+use crate::ruling::{self, Reading};
+use crate::sheet::{Record, COLOUR, STRAIGHT, STRICT};
+use crate::strict;
 use crate::stub::format::{Refusal, Template};
 use crate::tree::{dump, names, Kind, Segment, Specifier};
 
 pub struct Ruled {
-    reading: Result<Vec<Segment>, u8>,
+    /// In the first edition.
+    reading: Result<Reading, u8>,
     judge: Judge,
+}
+
+/// What the strict edition makes of a template; by what comes first where that is 17.
+#[derive(Clone, Copy)]
+pub enum Strictly {
+    Read,
+    Dropped,
+    Lost,
+    Refused,
+}
+
+impl Strictly {
+    pub const NAMES: [&'static str; 4] =
+        ["reads", "17, first a dropped byte", "17, first a lost parameter", "refuses as the first does"];
 }
 
 /// Who judges the lines.
@@ -38,23 +54,41 @@ impl Ruled {
         Ok(Ruled { reading, judge })
     }
 
-    pub fn refusal(&self) -> Option<u8> {
-        self.reading.as_ref().err().copied()
-    }
-
-    pub fn names_timestamp(&self) -> Result<bool, u8> {
+    /// The refusal of the template in the edition that the settings choose. "It reads exactly the templates that the first
+    /// edition reads with every byte used and every parameter still in force"; 17 is "checked after 3 to 10".
+    pub fn refusal(&self, settings: u8) -> Option<Owed> {
         match &self.reading {
-            Ok(segments) => Ok(names_timestamp(segments)),
-            Err(number) => Err(*number),
+            Err(number) => Some(Owed::Refused(*number)),
+            Ok(reading) if settings & STRICT != 0 => reading.unused.place().map(Owed::Dropped),
+            Ok(_) => None,
         }
     }
 
-    /// What is owed for a record in the crate's mode and in straight mode. `colour` must be what `set_colour` set last.
+    /// Whether it names `{t}`, or its refusal.
+    pub fn names_timestamp(&self, settings: u8) -> Result<bool, Owed> {
+        let yes = self.reading.as_ref().map_or(false, |reading| names_timestamp(&reading.segments));
+        self.refusal(settings).map_or(Ok(yes), Err)
+    }
+
+    /// What became of it in the strict edition.
+    pub fn seen(&self) -> Strictly {
+        match &self.reading {
+            Err(_) => Strictly::Refused,
+            Ok(Reading { unused, .. }) => match unused.place() {
+                None => Strictly::Read,
+                Some(place) if unused.lost.iter().any(|lost| lost.word.start == place) => Strictly::Lost,
+                Some(_) => Strictly::Dropped,
+            },
+        }
+    }
+
+    /// What is owed for a record in the crate's mode and in straight mode, in the first edition; in the strict one it is the
+    /// same, or the template's refusal. `colour` must be what `set_colour` set last.
     pub fn owed(&self, record: &Record, colour: bool, listed: &mut Vec<Listed>) -> Result<[Owed; 2], String> {
         let both = |number| [Owed::Refused(number), Owed::Refused(number)];
         let segments = match &self.reading {
             Err(number) => return Ok(both(*number)),
-            Ok(segments) => segments,
+            Ok(reading) => &reading.segments,
         };
         if let Some(number) = ruling::record(record) {
             return Ok(both(number));
@@ -72,29 +106,27 @@ impl Ruled {
     }
 }
 
-/// Where the ruling is 3, 4, 9 or that it is read, the crate must agree, segment by segment.
-fn judged_reading(
-    template: &str,
-    reading: &Result<Vec<Segment>, u8>,
-    listed: &mut Vec<Listed>,
-) -> Result<Judge, String> {
+/// Where the ruling is 3, 4, 9 or that it is read, the crate must agree, segment by segment and in what is unused.
+fn judged_reading(template: &str, reading: &Result<Reading, u8>, listed: &mut Vec<Listed>) -> Result<Judge, String> {
     let asked = judge::read(template);
     let agree = match (reading, &asked) {
         (Err(3), Some(Err(Refusal::Failure))) | (Err(9), None) => true,
         (Err(4), Some(Err(Refusal::NoMessage))) => {
-            let segments = ruling::parse(template.as_bytes()).expect("only {s} is missing");
-            judge::read_unchecked(template) == Some(Ok(segments))
+            judge::read_unchecked(template) == Some(Ok(without_message(template)))
         }
-        (Ok(segments), Some(Ok(read))) => {
+        (Ok(Reading { segments, .. }), Some(Ok(read))) => {
             read.segments() == *segments && read.has_timestamp() == names_timestamp(segments)
         }
         _ => false,
     };
     if agree {
+        if let Ok(reading) = reading {
+            strict::judged(template, reading)?;
+        }
         return Ok(asked.and_then(Result::ok).map_or(Judge::Nobody, Judge::Crate));
     }
     let (crates, ruled) = (judge::segments(template.as_bytes()), ruled_dump(template, reading));
-    match judged_by_letters(template, &crates, &ruled) {
+    match judged_by_letters(template, reading, &crates, &ruled) {
         Some(other) => {
             listed.push(Listed::Kelvin);
             Ok(Judge::Other(Box::new(other)))
@@ -103,11 +135,16 @@ fn judged_reading(
     }
 }
 
+/// The ruled segments of a template that has everything but `{s}`.
+fn without_message(template: &str) -> Vec<Segment> {
+    ruling::parse(template.as_bytes()).expect("only {s} is missing").segments
+}
+
 /// In the form of `judge::segments`.
-fn ruled_dump(template: &str, reading: &Result<Vec<Segment>, u8>) -> String {
+fn ruled_dump(template: &str, reading: &Result<Reading, u8>) -> String {
     match reading {
-        Ok(segments) => dump(segments),
-        Err(4) => format!("4 {}", dump(&ruling::parse(template.as_bytes()).expect("only {s} is missing"))),
+        Ok(reading) => dump(&reading.segments),
+        Err(4) => format!("4 {}", dump(&without_message(template))),
         Err(9) => "panic".to_string(),
         Err(number) => number.to_string(),
     }
@@ -115,14 +152,15 @@ fn ruled_dump(template: &str, reading: &Result<Vec<Segment>, u8>) -> String {
 
 /// The ruling of the template with another letter in place of the Kelvin sign, where the sign is why crate and ruling
 /// part and nothing else is: the crate reads it for a `K` and the ruling for the other letter, and where either letter
-/// stands they agree.
-fn judged_by_letters(template: &str, crates: &str, ruled: &str) -> Option<Ruled> {
+/// stands they agree. With the other letter, which is as long, the same bytes must be unused.
+fn judged_by_letters(template: &str, reading: &Result<Reading, u8>, crates: &str, ruled: &str) -> Option<Ruled> {
     let agreed = |letter| Ruled::new(kelvin::with(letter, template).as_bytes(), &mut Vec::new()).ok();
     let explained = template.contains(kelvin::SIGN)
         && kelvin::is_read_as(crates, kelvin::LARGE_K, template)
         && kelvin::is_read_as(ruled, kelvin::OTHER, template)
         && agreed(kelvin::LARGE_K).is_some();
-    explained.then(|| agreed(kelvin::OTHER)).flatten()
+    let unused = |reading: &Result<Reading, u8>| reading.as_ref().map(|reading| reading.unused.clone()).ok();
+    explained.then(|| agreed(kelvin::OTHER)).flatten().filter(|other| unused(&other.reading) == unused(reading))
 }
 
 fn names_timestamp(segments: &[Segment]) -> bool {

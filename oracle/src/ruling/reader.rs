@@ -1,7 +1,9 @@
-//! Document 01's reading of a template, limits included, with document 02's letters (E3). The functions are named as in
-//! the crate, which reads in the same order, so that the two can be laid side by side.
+//! Document 01's reading of a template, limits included, with document 02's letters (E3) and a note of what is left unused
+//! (E5). The functions are named as in the crate, which reads in the same order, so that the two can be laid side by side.
 
+use super::unused::{Lost, Unused};
 use crate::tree::{Alignment, Colour, Format, Kind, Padding, Segment, Specifier, COLOURS, STYLES};
+use std::ops::Range;
 
 const MOST_BYTES: usize = 1024;
 const MOST_SEGMENTS: usize = 64;
@@ -29,28 +31,40 @@ enum Item {
     Nested(Segment),
 }
 
-/// All segments, or the number; a template without `{s}` is read here.
-pub fn parse(template: &[u8]) -> Result<Vec<Segment>, u8> {
+/// A template that is read.
+#[derive(Clone, Debug, PartialEq)]
+pub struct Reading {
+    pub segments: Vec<Segment>,
+    pub unused: Unused,
+}
+
+/// The whole reading, or the number; a template without `{s}` is read here.
+pub fn parse(template: &[u8]) -> Result<Reading, u8> {
     if template.len() > MOST_BYTES {
         return Err(1);
     }
     let text = std::str::from_utf8(template).map_err(|_| 2)?;
-    let mut reader = Reader { made: 0 };
+    let mut reader = Reader { text, made: 0, unused: Unused::default() };
     let read = many0(text, |i| alt(reader.parse_argument(1, i), || reader.parse_string_segment(i)));
     match read {
-        Ok((_, segments)) => Ok(segments),
+        Ok((rest, segments)) => {
+            reader.drop_rest(rest);
+            Ok(Reading { segments, unused: reader.unused })
+        }
         Err(Refused(number)) => Err(number),
         Err(Misfit) => unreachable!("none of many may misfit"),
     }
 }
 
-struct Reader {
+struct Reader<'a> {
+    text: &'a str,
     made: usize,
+    unused: Unused,
 }
 
-impl Reader {
+impl<'a> Reader<'a> {
     /// A brace; the outermost has depth 1.
-    fn parse_argument<'a>(&mut self, depth: usize, input: &'a str) -> Fit<'a, Segment> {
+    fn parse_argument(&mut self, depth: usize, input: &'a str) -> Fit<'a, Segment> {
         let inside = input.strip_prefix('{').ok_or(Misfit)?;
         let end = take_until_unbalanced(inside)?;
         if depth > MOST_DEPTH {
@@ -60,7 +74,7 @@ impl Reader {
         Ok((&inside[end + 1..], segment))
     }
 
-    fn parse_string_segment<'a>(&mut self, input: &'a str) -> Fit<'a, Segment> {
+    fn parse_string_segment(&mut self, input: &'a str) -> Fit<'a, Segment> {
         let end = input.find(['{', '%']).unwrap_or(input.len());
         if end == 0 {
             return Err(Misfit);
@@ -69,9 +83,9 @@ impl Reader {
         Ok((&input[end..], self.make(text)?))
     }
 
-    /// A brace's content; what is left of it is dropped.
-    fn parse_log_segment(&mut self, depth: usize, content: &str) -> Result<Segment, Miss> {
-        let (_, items) = if depth % 2 == 1 {
+    /// A brace's content; what is left of it is dropped. It fits or refuses the template, so that no note is taken back.
+    fn parse_log_segment(&mut self, depth: usize, content: &'a str) -> Result<Segment, Miss> {
+        let (rest, items) = if depth % 2 == 1 {
             separated_list1(':', content, |i| {
                 alt(parse_metadata(i), || alt(parse_format(i), || self.parse_nested(depth, i)))
             })
@@ -80,17 +94,19 @@ impl Reader {
                 alt(self.parse_nested_log_segment(i), || alt(parse_format(i), || self.parse_nested(depth, i)))
             })
         }?;
-        self.build_log_segment(items, Refused(3))
+        self.drop_rest(rest);
+        self.lose_parameters(&items);
+        self.build_log_segment(alone(items), Refused(3))
     }
 
     /// The `:`-list at even depth, which misfits where its parts don't go together.
-    fn parse_nested_log_segment<'a>(&mut self, input: &'a str) -> Fit<'a, Item> {
+    fn parse_nested_log_segment(&mut self, input: &'a str) -> Fit<'a, Item> {
         let (rest, items) = separated_list1(':', input, |i| alt(parse_metadata(i), || parse_format(i)))?;
-        Ok((rest, Item::Nested(self.build_log_segment(items, Misfit)?)))
+        Ok((rest, Item::Nested(self.build_log_segment(alone(items), Misfit)?)))
     }
 
     /// A group in a brace of this depth.
-    fn parse_nested<'a>(&mut self, depth: usize, input: &'a str) -> Fit<'a, Item> {
+    fn parse_nested(&mut self, depth: usize, input: &'a str) -> Fit<'a, Item> {
         let (rest, items) = many0(input, |i| {
             let nested = |(rest, segment)| (rest, Item::Nested(segment));
             alt(self.parse_argument(depth + 1, i).map(nested), || {
@@ -120,6 +136,29 @@ impl Reader {
             return Err(Refused(5));
         }
         Ok(segment)
+    }
+
+    fn drop_rest(&mut self, rest: &str) {
+        if !rest.is_empty() {
+            self.unused.dropped.push(self.places(rest));
+        }
+    }
+
+    /// A content with a group or an inner segment "takes that and loses its own parameters": whatever else it has, or it
+    /// is refused.
+    fn lose_parameters(&mut self, items: &[(&str, Item)]) {
+        let Some(taken) = items.iter().position(|(_, item)| matches!(item, Item::Nested(_))) else { return };
+        for (nth, (text, _)) in items.iter().enumerate().filter(|(nth, _)| *nth != taken) {
+            let word = self.places(text);
+            let separator = if nth < taken { word.end } else { word.start - 1 };
+            self.unused.lost.push(Lost { word, separator });
+        }
+    }
+
+    /// Where a part of the template stands in it.
+    fn places(&self, part: &str) -> Range<usize> {
+        let start = part.as_ptr() as usize - self.text.as_ptr() as usize;
+        start..start + part.len()
     }
 }
 
@@ -265,18 +304,19 @@ fn many0<'a, T>(mut rest: &'a str, mut item: impl FnMut(&'a str) -> Fit<'a, T>) 
     }
 }
 
-/// Ends before a separator whose next item doesn't fit.
+/// Each item with the text that it was read from. Ends before a separator whose next item doesn't fit.
 fn separated_list1<'a, T>(
     separator: char,
     input: &'a str,
     mut item: impl FnMut(&'a str) -> Fit<'a, T>,
-) -> Fit<'a, Vec<T>> {
+) -> Fit<'a, Vec<(&'a str, T)>> {
+    let before = |from: &'a str, rest: &str| &from[..from.len() - rest.len()];
     let (mut rest, first) = item(input)?;
-    let mut items = vec![first];
-    while let Some(after) = rest.strip_prefix(separator) {
-        match item(after) {
+    let mut items = vec![(before(input, rest), first)];
+    while let Some(from) = rest.strip_prefix(separator) {
+        match item(from) {
             Ok((after, one)) => {
-                items.push(one);
+                items.push((before(from, after), one));
                 rest = after;
             }
             Err(Misfit) => break,
@@ -284,4 +324,9 @@ fn separated_list1<'a, T>(
         }
     }
     Ok((rest, items))
+}
+
+/// The items without their texts.
+fn alone(items: Vec<(&str, Item)>) -> Vec<Item> {
+    items.into_iter().map(|(_, item)| item).collect()
 }

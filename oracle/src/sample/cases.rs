@@ -39,11 +39,12 @@ pub fn all(seed: u64) -> Vec<Case> {
     maker.depth_limits();
     maker.field_limits();
     maker.listed();
+    maker.strict();
     maker.cases
 }
 
 pub(super) struct Maker {
-    rng: Rng,
+    pub(super) rng: Rng,
     cases: Vec<Case>,
     seen: HashSet<Vec<u8>>,
 }
@@ -53,7 +54,7 @@ pub(super) fn info() -> Record {
 }
 
 /// Every field present and none that the crate treats in a special way.
-fn full() -> Record {
+pub(super) fn full() -> Record {
     Record {
         level: 1,
         mask: FILE | LINE | MODULE,

@@ -16,6 +16,7 @@ impl Counts {
             ("N", format!("{:3}", case.number)),
             ("family", case.family.to_string()),
             ("setting", if case.sheet.colour() { "colour on" } else { "colour off" }.to_string()),
+            ("edition", if case.sheet.strict() { "strict" } else { "first" }.to_string()),
             ("answer", summary(answer)),
         ];
         for record in &case.sheet.records {

@@ -2,8 +2,8 @@
 
 use super::gauge;
 use super::texts::cycled;
-use super::timing::{alone, shown};
-use crate::sheet::{Record, COLOUR, STRAIGHT};
+use super::timing::{alone, in_turn, shown};
+use crate::sheet::{Record, COLOUR, STRAIGHT, STRICT};
 use pralakuon::entries;
 use std::hint::black_box;
 
@@ -49,14 +49,21 @@ fn tower(text: &str, parameter: &str, n: usize) -> String {
     (1..n).fold("{s}".to_string(), |inner, _| format!("{{{text}{{l}}{inner}{parameter}}}"))
 }
 
-/// Reading templates of 1,024 bytes that are made to be slow.
+/// Reading templates of 1,024 bytes that are made to be slow. Of those that are refused the strict edition looks at no more.
 fn reading() {
-    let text = alone(|| entries::check(black_box(&[b'x'; 1024])));
-    println!("| reading 1,024 bytes | ns | times plain text |\n|---|---|---|");
+    let check = |template: &[u8], settings| entries::check(black_box(template), settings);
+    let text = alone(|| check(&[b'x'; 1024], 0));
+    println!("| reading 1,024 bytes | ns | times plain text | strict, ns | strict / first |\n|---|---|---|---|---|");
     for (name, template) in hostile() {
         assert_eq!(template.len(), 1024, "{name}");
-        let time = alone(|| entries::check(black_box(&template)));
-        println!("| {name} | {} | {} |", shown(time), shown(time / text));
+        let (first, strict) = in_turn(|| check(&template, 0), || check(&template, STRICT));
+        println!(
+            "| {name} | {} | {} | {} | {} |",
+            shown(first),
+            shown(first / text),
+            shown(strict),
+            shown(strict / first)
+        );
     }
     println!();
 }
@@ -73,8 +80,10 @@ fn hostile() -> Vec<(&'static str, Vec<u8>)> {
         ("`{s`", repeated("{s")),
         ("`{\\`", repeated("{\\")),
         ("`{s`, colons, `}`", filled("{s", ":", "}")),
+        ("`{s`, spaces, `}`", filled("{s", " ", "}")),
         ("`{s}`, one brace round text", filled("{", "x", "{s}}")),
         ("`{s}`, eight braces round text", filled(&("{[".repeat(7) + "{s}"), "x", &"}".repeat(7))),
+        ("`{s}`, eight braces round `{l}` and text", filled(&("{[{l}".repeat(7) + "{s}"), "x", &"}".repeat(7))),
         ("`{s}`, eight braces round `%`", filled(&"{x".repeat(8), "%", &"}".repeat(8))),
         ("text of `測`", repeated("測")),
         ("`{s`, `é`, `}`", filled("{s", "é", "}")),

@@ -2,7 +2,7 @@
 
 use super::gauge;
 use super::texts::cycled;
-use crate::sheet::{Sheet, COLOUR, STRAIGHT};
+use crate::sheet::{Sheet, COLOUR, STRAIGHT, STRICT};
 use pralakuon::entries;
 use std::hint::black_box;
 use std::thread;
@@ -22,17 +22,24 @@ pub fn run() {
 
 fn print() {
     let templates = templates();
-    let sheets: Vec<_> = templates.iter().map(|template| sheet(template)).collect();
+    let sheets = |settings| -> Vec<_> { templates.iter().map(|template| sheet(settings, template)).collect() };
     let record = gauge().write();
     let mut out = vec![0; 1 << 20];
     println!("| entry | stack, bytes at most |\n|---|---|");
-    for (name, settings) in [("plain", 0), ("straight", COLOUR | STRAIGHT)] {
+    let straight = COLOUR | STRAIGHT;
+    for (name, settings) in [("plain", 0), ("straight", straight), ("straight, strict", straight | STRICT)] {
         let used = most(&templates, |template| entries::line(template, settings, &record, &mut out));
         println!("| `pralakuon_line`, {name} | {used} |");
     }
-    println!("| `pralakuon_session` | {} |", most(&sheets, |sheet| entries::session(sheet, &mut out)));
-    println!("| `pralakuon_check` | {} |", most(&templates, entries::check));
-    println!("| `pralakuon_timestamp` | {} |", most(&templates, entries::timestamp));
+    for (name, strict) in [("", 0), (", strict", STRICT)] {
+        let used = most(&sheets(straight | strict), |sheet| entries::session(sheet, &mut out));
+        println!("| `pralakuon_session`{name} | {used} |");
+        println!("| `pralakuon_check`{name} | {} |", most(&templates, |template| entries::check(template, strict)));
+        println!(
+            "| `pralakuon_timestamp`{name} | {} |",
+            most(&templates, |template| entries::timestamp(template, strict))
+        );
+    }
     println!("| `pralakuon_visible` | {} |", most(&templates, |text| entries::visible(text, &mut out)));
     println!("| `pralakuon_builtin` | {} |", most(&[vec![]], |_| entries::builtin(1, 1, 1, 1, &mut out)));
 }
@@ -57,8 +64,8 @@ fn templates() -> Vec<Vec<u8>> {
     plain.into_iter().chain(lettered).map(String::into_bytes).collect()
 }
 
-fn sheet(template: &[u8]) -> Vec<u8> {
-    Sheet { settings: COLOUR | STRAIGHT, template: template.to_vec(), records: vec![gauge(); 3] }.write()
+fn sheet(settings: u8, template: &[u8]) -> Vec<u8> {
+    Sheet { settings, template: template.to_vec(), records: vec![gauge(); 3] }.write()
 }
 
 fn most(inputs: &[Vec<u8>], mut call: impl FnMut(&[u8]) -> u64) -> usize {

@@ -11,7 +11,7 @@ pub struct Pace {
 }
 
 /// For times that are held against each other.
-const USUAL: Pace = Pace { rounds: 7, turn: Duration::from_millis(4) };
+pub const USUAL: Pace = Pace { rounds: 7, turn: Duration::from_millis(4) };
 
 /// For times that are taken from each other: each work is to have a turn that nothing disturbs. A machine can be slow
 /// nine moments out of ten, and such a turn is likely only among many short ones.

@@ -5,9 +5,9 @@ use Rattle.template.specs.Parsing.{tellParsed, ParsedKeeps}
 use lib.ListN.{length}
 use Rattle.record.specs.Layout.{laidOut}
 use Rattle.answer.specs.Answers.{answerOf, bufferAfter}
-use Rattle.answer.proofs.Answering.{read-short, read-outcome, unread-outcome}
-use Rattle.packing.proofs.Rooms.{packable-refused}
-use Rattle.template.proofs.Refusing.{template-refuses, unsized}
+use Rattle.answer.proofs.Answering.{read-outcome, unread-outcome}
+use Rattle.packing.proofs.Rooms.{packable-small}
+use Rattle.template.proofs.Refusing.{read-short, refused-by, small-value}
 use borrow.Author.Needs.{needs}
 use Rattle.answer.proofs.read_and_answer.Statement.{statement}
 use Rattle.answer.proofs.read_and_answer.Tie as tie
@@ -29,11 +29,11 @@ unfolding tellParsed
 answer-record-requires c κs =
     let p = c .before .before .before .before .before .before .before .before .before .before .before in
     let q = c .before .before .before .before .before .before .parse in
-    let cells = q .last .1 .0 in
+    let cells = q .last .1 .1 .0 in
     let eq = c .before .before .before .read .given .1 in
     let told = sym (q .ensures .0) ∙ ap (λ (x : Parsed). tellParsed x cells) eq in
     let keeps = subst (λ (x : Parsed). ParsedKeeps cells x) eq (q .ensures .1) in
-    record { pool = search needs; read = keeps; template = read-short (p .args .t .now) _ told; size = p .pre }
+    record { pool = search needs; read = keeps; template = read-short (p .args .edition) (p .args .t .now) _ told; size = p .pre }
 
 enum-known-read-2 : tie.Need-enum-known-read-2
 enum-known-read-2 c = search needs
@@ -46,10 +46,10 @@ unfolding tellParsed
 returns c =
     let p = c .before .before .before .before .before .before .before .before .before .before .before .before .before .before in
     let q = c .before .before .before .before .before .before .before .before .before .parse in
-    let cells = q .last .1 .0 in
+    let cells = q .last .1 .1 .0 in
     let eq = c .before .before .before .before .before .before .read .given .1 in
     let told = sym (q .ensures .0) ∙ ap (λ (x : Parsed). tellParsed x cells) eq in
-    let o = read-outcome (p .args .s) (p .args .t .now) (laidOut (p .args .d .now)) (length (p .args .out .now)) _ told in
+    let o = read-outcome (p .args .edition) (p .args .s) (p .args .t .now) (laidOut (p .args .d .now)) (length (p .args .out .now)) _ told in
     let k = c .before .before .answer-record in
     (k .ensures .0 ∙ ap answerOf o, (k .ensures .1 .0 ∙ ap (bufferAfter (p .args .out .now)) o, k .ensures .1 .1))
 
@@ -58,12 +58,12 @@ unfolding tellParsed answerOf bufferAfter
 returns-2 c =
     let p = c .before .before .before .before .before .before .before .before .before in
     let q = c .before .before .before .before .parse in
-    let cells = q .last .1 .0 in
+    let cells = q .last .1 .1 .0 in
     let eq = c .before .read2 .given .1 in
     let told = sym (q .ensures .0) ∙ ap (λ (x : Parsed). tellParsed x cells) eq in
     let r = c .before .read2 .given .0 .0 in
-    let o = unread-outcome (p .args .s) (p .args .t .now) (laidOut (p .args .d .now)) (length (p .args .out .now)) r told in
-    (ap answerOf o, (ap (bufferAfter (p .args .out .now)) o, packable-refused r (unsized r (template-refuses (p .args .t .now) r told))))
+    let o = unread-outcome (p .args .edition) (p .args .s) (p .args .t .now) (laidOut (p .args .d .now)) (length (p .args .out .now)) r told in
+    (ap answerOf o, (ap (bufferAfter (p .args .out .now)) o, packable-small r (small-value _ r (refused-by (p .args .edition) (p .args .t .now) r told))))
 
 pub read-and-answer-spec : {M : Type 1} → statement M
 read-and-answer-spec =

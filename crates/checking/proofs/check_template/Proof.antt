@@ -1,17 +1,14 @@
 -- `checking::check_template` meets its contract. Assumes nothing.
-use mathlib.Core.Path.{sym, ap, _∙_}
-use Rattle.template.specs.declared.Parsed.{Parsed}
-use Rattle.template.specs.Parsing.{tellParsed}
-use Rattle.checking.specs.Templates.{checkOf}
 use borrow.Author.Needs.{needs}
+use Rattle.checking.proofs.Naming.{told-read, told-refused, asked-small, accepted, refused-check}
 use Rattle.checking.proofs.check_template.Statement.{statement}
 use Rattle.checking.proofs.check_template.Tie as tie
 
-slice-aggregate-parse : tie.Need-slice-aggregate-parse
-slice-aggregate-parse c = search needs
+slice-aggregate-parse-asked : tie.Need-slice-aggregate-parse-asked
+slice-aggregate-parse-asked c = search needs
 
-parse-requires : tie.Need-parse-requires
-parse-requires c κs = search needs
+parse-asked-requires : tie.Need-parse-asked-requires
+parse-asked-requires c κs = search needs
 
 enum-told : tie.Need-enum-told
 enum-told c = search needs
@@ -19,39 +16,30 @@ enum-told c = search needs
 enum-known-read : tie.Need-enum-known-read
 enum-known-read c = search needs
 
-number-of-requires : tie.Need-number-of-requires
-number-of-requires c κs = search needs
-
-cast-result : tie.Need-cast-result
-cast-result c = search needs
+pack-refusal-requires : tie.Need-pack-refusal-requires
+pack-refusal-requires c κs =
+    let q = c .before .before .before .before .parse-asked in
+    asked-small _ _ _ (told-refused _ _ _ (q .ensures .0) _ (c .before .read .given .1))
 
 returns : tie.Need-returns
-unfolding tellParsed checkOf
 returns c =
-    let q = c .before .before .before .parse in
-    let cells = q .last .1 .0 in
-    let eq = c .enum-told .given .1 in
-    let told = sym (q .ensures .0) ∙ ap (λ (x : Parsed). tellParsed x cells) eq in
-    ap checkOf (sym told)
+    let q = c .before .before .before .parse-asked in
+    accepted _ _ (told-read _ _ _ (q .ensures .0) _ (c .enum-told .given .1))
 
 returns-2 : tie.Need-returns-2
-unfolding tellParsed checkOf
 returns-2 c =
-    let q = c .before .before .before .before .before .parse in
-    let cells = q .last .1 .0 in
-    let eq = c .before .before .read .given .1 in
-    let told = sym (q .ensures .0) ∙ ap (λ (x : Parsed). tellParsed x cells) eq in
-    c .number-of .ensures .0 ∙ ap checkOf (sym told)
+    let read = c .before .before in
+    let q = read .before .before .before .parse-asked in
+    refused-check _ _ (told-refused _ _ _ (q .ensures .0) _ (read .read .given .1)) _ (c .pack-refusal .ensures)
 
 pub check-template-spec : {M : Type 1} → statement M
 check-template-spec =
     tie.close
     (tie.spec
-    slice-aggregate-parse
-    parse-requires
+    slice-aggregate-parse-asked
+    parse-asked-requires
     enum-told
     enum-known-read
-    number-of-requires
-    cast-result
+    pack-refusal-requires
     returns
     returns-2)

@@ -10,19 +10,19 @@ number-of-requires c κs = search needs
 cast-result : tie.Need-cast-result
 cast-result c = search needs
 
-length-with-requires : tie.Need-length-with-requires
-length-with-requires c κs = search needs
+value-with-requires : tie.Need-value-with-requires
+value-with-requires c κs = search needs
 
 mul-result : tie.Need-mul-result
 mul-result c = search needs
 
 add-result : tie.Need-add-result
 add-result c =
-    omega (arith, c .before .before .pre, c .length-with .ensures, c .before .number-of .ensures)
+    omega (arith, c .before .before .pre, c .value-with .ensures, c .before .number-of .ensures)
 
 returns : tie.Need-returns
 returns c = search needs
 
 pub pack-refusal-spec : {M : Type 1} → statement M
 pack-refusal-spec =
-    tie.close (tie.spec number-of-requires cast-result length-with-requires mul-result add-result returns)
+    tie.close (tie.spec number-of-requires cast-result value-with-requires mul-result add-result returns)

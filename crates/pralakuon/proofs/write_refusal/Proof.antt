@@ -11,15 +11,15 @@ slice-aggregate-put-refusal : tie.Need-slice-aggregate-put-refusal
 slice-aggregate-put-refusal c = search needs
 
 put-refusal-requires : tie.Need-put-refusal-requires
-put-refusal-requires c κs = omega (arith, refusal-most (c .before .args .r))
+put-refusal-requires c κs = omega (arith, refusal-most (c .before .before .args .r))
 
 array-share-prefix-line : tie.Need-array-share-prefix-line
 array-share-prefix-line c =
-    omega (arith, c .before .put-refusal .ensures .0, refusal-most (c .before .before .before .args .r))
+    omega (arith, c .before .put-refusal .ensures .0, refusal-most (c .before .before .before .before .args .r))
 
 slice-aggregate-written : tie.Need-slice-aggregate-written
 slice-aggregate-written c =
-    sym (length-take-le (c .before .before .put-refusal .result) _ (omega (arith, c .before .before .put-refusal .ensures .0, refusal-most (c .before .before .before .before .args .r), c .before .line2 .given)))
+    sym (length-take-le (c .before .before .put-refusal .result) _ (omega (arith, c .before .before .put-refusal .ensures .0, refusal-most (c .before .before .before .before .before .args .r), c .before .line2 .given)))
 
 written-requires : tie.Need-written-requires
 written-requires c κs = search needs

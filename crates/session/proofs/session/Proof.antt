@@ -3,7 +3,7 @@ use borrow.Author.Needs.{needs}
 use mathlib.Core.Path.{sym, ap, _∙_}
 use lib.ListN.{length}
 use Rattle.answer.specs.Answers.{answerOf, bufferAfter}
-use Rattle.packing.proofs.Rooms.{packable-refused}
+use Rattle.packing.proofs.Rooms.{packable-small}
 use Rattle.session.proofs.Places.{ready, whole-read, whole-refused}
 use Rattle.session.proofs.session.Statement.{statement}
 use Rattle.session.proofs.session.Tie as tie
@@ -53,7 +53,7 @@ returns-2 c =
     let o = c .before .before .before .before in
     let p = o .before .before .before .before .args in
     let w = whole-refused (p .d .now) (o .open-sheet .last .1 .0) (o .open-sheet .result) (e .given .0 .0) (e .given .1) (o .open-sheet .ensures .0) (length (p .out .now)) in
-    (ap answerOf (sym (w .0)), (ap (bufferAfter (p .out .now)) (sym (w .0)), packable-refused (e .given .0 .0) (w .1)))
+    (ap answerOf (sym (w .0)), (ap (bufferAfter (p .out .now)) (sym (w .0)), packable-small (e .given .0 .0) (w .1)))
 
 pub session-spec : {M : Type 1} → statement M
 session-spec =

@@ -1,6 +1,6 @@
 //! Whole sheets, half of them damaged.
 
-use super::{crossed, records};
+use super::{crossed, records, strict};
 use crate::sample::random::Rng;
 use crate::sheet::{write_bodies, Record, Sheet};
 
@@ -21,8 +21,12 @@ pub fn sheet(rng: &mut Rng) -> Vec<u8> {
 
 /// Settings and template, then up to three records.
 fn bodies(rng: &mut Rng) -> Vec<Vec<u8>> {
-    let template = if rng.one_in(4) { crossed::template(rng) } else { rng.template(2).into_bytes() };
-    let settings = rng.below(4) as u8;
+    let template = match rng.below(4) {
+        0 => crossed::template(rng),
+        1 => strict::template(rng),
+        _ => rng.template(2).into_bytes(),
+    };
+    let settings = rng.below(8) as u8;
     let mut bodies = vec![[&[settings], &template[..]].concat()];
     for _ in 0..rng.below(4) {
         bodies.push(records::record(rng));
@@ -60,7 +64,7 @@ fn damaged(rng: &mut Rng, mut sheet: Vec<u8>) -> Vec<u8> {
 
 /// At the size of a sheet, at the size of the program's buffer, or at the widest that Rust's formatter takes.
 fn large(rng: &mut Rng) -> Vec<u8> {
-    let settings = rng.below(4) as u8;
+    let settings = rng.below(8) as u8;
     let many = "{s}".repeat(15 + rng.below(3));
     let (template, records) = match rng.below(3) {
         0 => ("{s}".to_string(), filling(rng)),

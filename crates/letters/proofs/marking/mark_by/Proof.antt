@@ -6,9 +6,9 @@ use mathlib.Core.Path.{_≡_, refl, ap, sym, _∙_}
 use native.Mathlib.Omega.{arith}
 use lib.ListN.{length, drop, take}
 use Rattle.buffer.specs.Buffer.{putAt}
-use Rattle.buffer.proofs.Writing.{put-nil}
+use Rattle.buffer.proofs.Writing.{put-nil, copy-length, copy-more, copy-done}
 use Rattle.letters.specs.Marked.{markedOn, marked}
-use Rattle.letters.proofs.Marks.{marked-length, byte-marked, rest-marked, copy-length, copy-more, copy-done}
+use Rattle.letters.proofs.Marks.{marked-length, byte-marked, rest-marked}
 use Rattle.letters.proofs.marking.mark_by.Statement.{statement}
 use Rattle.letters.proofs.marking.mark_by.Tie as tie
 

@@ -7,6 +7,7 @@ use mathlib.Core.List.{List}
 use lib.ListN.{length}
 use Rattle.buffer.specs.Buffer.{putAt}
 use Rattle.segments.specs.Pool.{chainAt}
+use Rattle.settings.specs.Bits.{settingsOf}
 use Rattle.session.proofs.Places.{asked, line-is}
 use Rattle.session.proofs.records.put_record.Statement.{statement}
 use Rattle.session.proofs.records.put_record.Tie as tie
@@ -17,15 +18,21 @@ template-in-requires c κs = search needs
 settings-in-requires : tie.Need-settings-in-requires
 settings-in-requires c κs = search needs
 
+settings-of-requires : tie.Need-settings-of-requires
+settings-of-requires c κs = search needs
+
 record-in-requires : tie.Need-record-in-requires
 record-in-requires c κs = search needs
 
 put-outcome-requires : tie.Need-put-outcome-requires
 put-outcome-requires c κs =
-    let p = c .before .before .before .before .before .before .before in
-    let t = c .before .before .before .template-in .ensures in
-    let x = c .before .record-in .ensures in
-    let l = line-is (p .args .d .now) (p .args .i) (p .args .j) _ _ t x (chainAt (p .args .cells .now) (p .args .n)) _ (c .before .before .settings-in .ensures) in
+    let body = c .before in
+    let set = body .before in
+    let template = set .before .before in
+    let p = template .before .before .before .before in
+    let t = template .template-in .ensures in
+    let x = body .record-in .ensures in
+    let l = line-is (p .args .d .now) (p .args .i) (p .args .j) _ _ t x (chainAt (p .args .cells .now) (p .args .n)) _ (set .settings-of .ensures ∙ ap settingsOf (set .before .settings-in .ensures)) in
     (asked (p .args .d .now) (p .args .i) (p .args .j) _ _ t x (p .args .cells .now) (p .args .n) (p .pre .0 .0) (p .pre .0 .1), omega (arith, ap length l, p .pre .1))
 
 same-length : tie.Need-same-length
@@ -35,8 +42,10 @@ returns : tie.Need-returns
 returns c =
     let put = c .before .before in
     let body = put .before .before in
-    let p = body .before .before .before .before .before .before .args in
-    let l = line-is (p .d .now) (p .i) (p .j) _ _ (body .before .before .template-in .ensures) (body .record-in .ensures) (chainAt (p .cells .now) (p .n)) _ (body .before .settings-in .ensures) in
+    let set = body .before in
+    let template = set .before .before in
+    let p = template .before .before .before .before .args in
+    let l = line-is (p .d .now) (p .i) (p .j) _ _ (template .template-in .ensures) (body .record-in .ensures) (chainAt (p .cells .now) (p .n)) _ (set .settings-of .ensures ∙ ap settingsOf (set .before .settings-in .ensures)) in
     (put .put-outcome .ensures .0 ∙ ap (λ (x : List ℕ). p .at + length x) l, put .put-outcome .ensures .1 ∙ ap (putAt (p .out .now) (p .at)) l)
 
 pub put-record-spec : {M : Type 1} → statement M
@@ -45,6 +54,7 @@ put-record-spec =
     (tie.spec
     template-in-requires
     settings-in-requires
+    settings-of-requires
     record-in-requires
     put-outcome-requires
     same-length

@@ -1,0 +1,3 @@
+pub mod Unused
+pub mod Looking
+pub mod Computing
