@@ -43,7 +43,7 @@ enum pralakuon_refusal {
     PRALAKUON_TOO_MANY_F = 8,            /* a specifier name of more than 255 f */
     PRALAKUON_HALF_ESCAPE = 9,           /* a backslash as the last byte where a closing brace is searched */
     /* 10 is no longer given, and no other refusal takes its number */
-    PRALAKUON_FIELD_TOO_LONG = 11,       /* a field over 4,096 bytes */
+    PRALAKUON_FIELD_TOO_LONG = 11,       /* a field over 4,096 bytes, or a head's serial over 32 */
     PRALAKUON_FIELD_NOT_UTF8 = 12,       /* a field not UTF-8 */
     PRALAKUON_LINE_TOO_LONG = 13,        /* longer than the lent buffer; the length is the one needed */
     PRALAKUON_NOT_A_RECORD = 14,         /* source, level, mask or an absent field that is there */
@@ -53,12 +53,14 @@ enum pralakuon_refusal {
 };
 
 /* Settings: bits of one byte. Give the same byte to every call that takes one. Straight without colour is plain. Strict
- * changes no line: it refuses (17) the templates of which bytes would be dropped or a parameter would be lost. */
+ * changes no line: it refuses (17) the templates of which bytes would be dropped or a parameter would be lost. Heads
+ * changes no line either: it says that records are laid out with the serial of a head, in a line call and in a sheet. */
 enum pralakuon_settings {
     PRALAKUON_PLAIN = 0,
     PRALAKUON_COLOUR = 1,
     PRALAKUON_STRAIGHT = 2,
-    PRALAKUON_STRICT = 4
+    PRALAKUON_STRICT = 4,
+    PRALAKUON_HEADS = 8
 };
 
 /* Whose record it is. */
@@ -77,11 +79,13 @@ enum pralakuon_level {
     PRALAKUON_LEVEL_TRACE = 5
 };
 
-/* What a record has: bits of its mask. Timestamp and message have none; a timestamp that is not known is empty. */
+/* What a record has: bits of its mask. Timestamp and message have none; a timestamp that is not known is empty. The head
+ * is known only by settings with PRALAKUON_HEADS: by others a record that is marked so is refused (14). */
 enum pralakuon_present {
     PRALAKUON_PRESENT_FILE = 1,
     PRALAKUON_PRESENT_LINE = 2,
-    PRALAKUON_PRESENT_MODULE = 4
+    PRALAKUON_PRESENT_MODULE = 4,
+    PRALAKUON_PRESENT_HEAD = 8
 };
 
 /* Styles of the built-in templates. */
@@ -106,13 +110,20 @@ enum pralakuon_style {
 #define PRALAKUON_RECORD_HEAD_BYTES 15
 #define PRALAKUON_RECORD_BYTES_MAX (PRALAKUON_RECORD_HEAD_BYTES + 4 * PRALAKUON_FIELD_BYTES_MAX)
 
+/* The same by settings with PRALAKUON_HEADS: the bytes of the fifth text, a head's serial; the bytes before all five; all
+ * of it. */
+#define PRALAKUON_SERIAL_BYTES_MAX 32
+#define PRALAKUON_RECORD_HEAD_BYTES_WITH_HEADS 17
+#define PRALAKUON_RECORD_BYTES_MAX_WITH_HEADS \
+    (PRALAKUON_RECORD_HEAD_BYTES_WITH_HEADS + 4 * PRALAKUON_FIELD_BYTES_MAX + PRALAKUON_SERIAL_BYTES_MAX)
+
 /* Limits of a session: the bytes of its sheet, and of one line. A record whose line is longer gets `! 13`. */
 #define PRALAKUON_SHEET_BYTES_MAX 65536
 #define PRALAKUON_SESSION_LINE_BYTES_MAX 65536
 
 /* The version of this header. A caller made for MAJOR.MINOR works with every archive of the same MAJOR.MINOR. */
 #define PRALAKUON_VERSION_MAJOR 0
-#define PRALAKUON_VERSION_MINOR 4
+#define PRALAKUON_VERSION_MINOR 5
 #define PRALAKUON_VERSION_PATCH 0
 #define PRALAKUON_VERSION (65536 * PRALAKUON_VERSION_MAJOR + 256 * PRALAKUON_VERSION_MINOR + PRALAKUON_VERSION_PATCH)
 
@@ -123,12 +134,14 @@ static inline uint64_t pralakuon_length_of(uint64_t answer) { return answer >> 8
 static inline uint64_t pralakuon_place_of(uint64_t answer) { return answer >> 8; }
 
 /* The line of one record. `record` is laid out as in a session sheet: source byte, level byte, mask of what is present,
- * u32 line, u16 lengths of file, module, timestamp, message, then those texts, all numbers little-endian. What is
- * absent is 0 or empty. pralakuon_record.h lays records out. */
+ * u32 line, u16 lengths of file, module, timestamp, message, then those texts, all numbers little-endian. By settings with
+ * PRALAKUON_HEADS the u16 length of the head's serial follows the four lengths, and the serial follows the four texts. What
+ * is absent is 0 or empty. pralakuon_record.h lays records out. */
 uint64_t pralakuon_line(const uint8_t *template_, size_t template_len, uint8_t settings, const uint8_t *record,
                         size_t record_len, uint8_t *out, size_t out_len);
 
-/* The lines of a session sheet: for each record its line or `! N`, N being its refusal, and a newline. A sheet that is
+/* The lines of a session sheet: for each record its line or `! N`, N being its refusal, and a newline. The settings byte in
+ * it says how all its records are laid out; sheets from before there were heads have no PRALAKUON_HEADS. A sheet that is
  * none (15) and one whose template is refused (1 to 9, 17) have no lines, whatever the room: the refusal is answered.
  * Only of an accepted sheet 13 tells the length of all its lines. pralakuon_record.h writes sheets. */
 uint64_t pralakuon_session(const uint8_t *sheet, size_t sheet_len, uint8_t *out, size_t out_len);

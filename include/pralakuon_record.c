@@ -4,7 +4,7 @@
 #include <string.h>
 
 enum {
-    TEXTS = 4,       /* file, module, timestamp, message */
+    TEXTS = 5,       /* file, module, timestamp, message, and with heads the serial */
     COUNT_BYTES = 2, /* of a sheet: how many bodies it has */
     LENGTH_BYTES = 4 /* of a sheet: how long one body is */
 };
@@ -34,24 +34,38 @@ static uint8_t *put_text(uint8_t *out, struct pralakuon_text text)
     return out + text.length;
 }
 
-/* The texts of a record in the order of its layout, absent ones empty, longer ones cut at `longest`. Gives the size of
- * its layout, which cannot overflow where `longest` is the size of a sheet at most. */
-static size_t gather(const struct pralakuon_record *record, size_t longest, struct pralakuon_text texts[TEXTS])
+/* How many texts a record has by these settings. */
+static int texts_by(uint8_t settings)
 {
-    size_t size = PRALAKUON_RECORD_HEAD_BYTES;
+    return settings & PRALAKUON_HEADS ? TEXTS : TEXTS - 1;
+}
+
+/* A text that is empty where it is absent, and cut where it is longer. */
+static struct pralakuon_text cut(struct pralakuon_text text, size_t longest)
+{
+    if (!text.bytes)
+        text.length = 0;
+    if (text.length > longest)
+        text.length = longest;
+    return text;
+}
+
+/* The texts of a record in the order of its layout, absent ones empty, longer ones cut at `longest`, the head's at
+ * `longest_head`. Gives the size of its layout by these settings, which cannot overflow where both are the size of a sheet
+ * at most. */
+static size_t gather(const struct pralakuon_record *record, uint8_t settings, size_t longest, size_t longest_head,
+                     struct pralakuon_text texts[TEXTS])
+{
+    size_t size = settings & PRALAKUON_HEADS ? PRALAKUON_RECORD_HEAD_BYTES_WITH_HEADS : PRALAKUON_RECORD_HEAD_BYTES;
     int i;
 
-    texts[0] = record->file;
-    texts[1] = record->module;
-    texts[2] = record->timestamp;
-    texts[3] = record->message;
-    for (i = 0; i < TEXTS; i++) {
-        if (!texts[i].bytes)
-            texts[i].length = 0;
-        if (texts[i].length > longest)
-            texts[i].length = longest;
+    texts[0] = cut(record->file, longest);
+    texts[1] = cut(record->module, longest);
+    texts[2] = cut(record->timestamp, longest);
+    texts[3] = cut(record->message, longest);
+    texts[4] = cut(record->head, longest_head);
+    for (i = 0; i < texts_by(settings); i++)
         size += texts[i].length;
-    }
     return size;
 }
 
@@ -59,10 +73,11 @@ static uint8_t present(const struct pralakuon_record *record)
 {
     return (uint8_t)((record->file.bytes ? PRALAKUON_PRESENT_FILE : 0) |
                      (record->has_line ? PRALAKUON_PRESENT_LINE : 0) |
-                     (record->module.bytes ? PRALAKUON_PRESENT_MODULE : 0));
+                     (record->module.bytes ? PRALAKUON_PRESENT_MODULE : 0) |
+                     (record->head.bytes ? PRALAKUON_PRESENT_HEAD : 0));
 }
 
-static void lay_out(const struct pralakuon_record *record, const struct pralakuon_text texts[TEXTS], uint8_t *out)
+static void lay_out(const struct pralakuon_record *record, const struct pralakuon_text *texts, int count, uint8_t *out)
 {
     int i;
 
@@ -70,20 +85,20 @@ static void lay_out(const struct pralakuon_record *record, const struct pralakuo
     *out++ = record->level;
     *out++ = present(record);
     out = put_number(out, record->has_line ? record->line : 0, 4);
-    for (i = 0; i < TEXTS; i++)
+    for (i = 0; i < count; i++)
         out = put_number(out, texts[i].length, 2);
-    for (i = 0; i < TEXTS; i++)
+    for (i = 0; i < count; i++)
         out = put_text(out, texts[i]);
 }
 
-size_t pralakuon_record_put(const struct pralakuon_record *record, uint8_t *out, size_t out_len)
+size_t pralakuon_record_put(const struct pralakuon_record *record, uint8_t settings, uint8_t *out, size_t out_len)
 {
     struct pralakuon_text texts[TEXTS];
-    size_t size = gather(record, PRALAKUON_FIELD_BYTES_MAX + 1, texts);
+    size_t size = gather(record, settings, PRALAKUON_FIELD_BYTES_MAX + 1, PRALAKUON_SERIAL_BYTES_MAX + 1, texts);
 
     if (size > out_len)
         return 0;
-    lay_out(record, texts, out);
+    lay_out(record, texts, texts_by(settings), out);
     return size;
 }
 
@@ -97,7 +112,8 @@ enum pralakuon_sheet_answer pralakuon_sheet_begin(struct pralakuon_sheet *sheet,
     /* A sheet that has no room at all, until one is begun. */
     sheet->bytes = out;
     sheet->room = sheet->size = sheet->empty = sheet->records = 0;
-    if (settings & ~(PRALAKUON_COLOUR | PRALAKUON_STRAIGHT | PRALAKUON_STRICT))
+    sheet->settings = settings;
+    if (settings & ~(PRALAKUON_COLOUR | PRALAKUON_STRAIGHT | PRALAKUON_STRICT | PRALAKUON_HEADS))
         return PRALAKUON_SHEET_UNKNOWN_SETTINGS;
     if (!template_.bytes)
         template_.length = 0;
@@ -115,7 +131,7 @@ enum pralakuon_sheet_answer pralakuon_sheet_begin(struct pralakuon_sheet *sheet,
 enum pralakuon_sheet_answer pralakuon_sheet_push(struct pralakuon_sheet *sheet, const struct pralakuon_record *record)
 {
     struct pralakuon_text texts[TEXTS];
-    size_t size = gather(record, PRALAKUON_SHEET_BYTES_MAX, texts);
+    size_t size = gather(record, sheet->settings, PRALAKUON_SHEET_BYTES_MAX, PRALAKUON_SHEET_BYTES_MAX, texts);
     size_t bodies = COUNT_BYTES + LENGTH_BYTES * (1 + sheet->records); /* where they begin */
 
     if (size + LENGTH_BYTES > sheet->room - sheet->empty)
@@ -124,7 +140,7 @@ enum pralakuon_sheet_answer pralakuon_sheet_push(struct pralakuon_sheet *sheet, 
         return PRALAKUON_SHEET_FULL;
     memmove(sheet->bytes + bodies + LENGTH_BYTES, sheet->bytes + bodies, sheet->size - bodies);
     put_number(sheet->bytes + bodies, size, LENGTH_BYTES);
-    lay_out(record, texts, sheet->bytes + sheet->size + LENGTH_BYTES);
+    lay_out(record, texts, texts_by(sheet->settings), sheet->bytes + sheet->size + LENGTH_BYTES);
     sheet->size += LENGTH_BYTES + size;
     sheet->records++;
     put_number(sheet->bytes, 1 + sheet->records, COUNT_BYTES);
@@ -146,7 +162,7 @@ const char *pralakuon_refusal_text(unsigned refusal)
         "the template has a name of more than 255 f",
         "the template ends in a backslash where a closing brace is searched for",
         unknown, /* 10 is no longer given */
-        "a text of the record is over 4,096 bytes",
+        "a text of the record is over 4,096 bytes, or its head over 32",
         "a text of the record is not UTF-8",
         "the line is longer than the buffer",
         "the record has an unknown number or contradicts itself",

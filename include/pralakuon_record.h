@@ -32,17 +32,23 @@ struct pralakuon_record {
     struct pralakuon_text module;
     struct pralakuon_text timestamp; /* an absent one and an empty one are the same; so it is for the message */
     struct pralakuon_text message;
+    struct pralakuon_text head; /* the serial of the head that measured it; needs settings with PRALAKUON_HEADS */
 };
 
-/* The room that every record has enough of. */
-#define PRALAKUON_RECORD_ROOM (PRALAKUON_RECORD_HEAD_BYTES + 4 * (PRALAKUON_FIELD_BYTES_MAX + 1))
+/* The room that every record has enough of, by any settings. */
+#define PRALAKUON_RECORD_ROOM \
+    (PRALAKUON_RECORD_HEAD_BYTES_WITH_HEADS + 4 * (PRALAKUON_FIELD_BYTES_MAX + 1) + PRALAKUON_SERIAL_BYTES_MAX + 1)
 
-/* Lays a record out for a line call, at the front of `out`. Value: its size, or 0 where `out` is too short, and then
- * nothing is written. A line call refuses a record of 0 bytes (15), so the value can be handed on unchecked.
+/* Lays a record out for a line call by the same settings, at the front of `out`. Value: its size, or 0 where `out` is too
+ * short, and then nothing is written. A line call refuses a record of 0 bytes (15), so the value can be handed on
+ * unchecked.
  *
- * The layout has 16 bits for a text's length. A text over 4,096 bytes is cut at 4,097: the line call refuses it (11) as
- * it would refuse the whole. */
-size_t pralakuon_record_put(const struct pralakuon_record *record, uint8_t *out, size_t out_len);
+ * Of the settings only PRALAKUON_HEADS counts: with it the head's serial is laid out behind the other texts. Without it a
+ * head is only marked in the mask, so that the line call refuses the record (14) and no head is lost without a word.
+ *
+ * The layout has 16 bits for a text's length. A text over 4,096 bytes is cut at 4,097 and a head's serial over 32 bytes at
+ * 33: the line call refuses it (11) as it would refuse the whole. */
+size_t pralakuon_record_put(const struct pralakuon_record *record, uint8_t settings, uint8_t *out, size_t out_len);
 
 /* A sheet that is being written. After each call `bytes` holds, in its first `size` bytes, a whole sheet. */
 struct pralakuon_sheet {
@@ -51,6 +57,7 @@ struct pralakuon_sheet {
     size_t size;  /* 0 where nothing was begun */
     size_t empty; /* the size that it had without records */
     size_t records;
+    uint8_t settings; /* those that it was begun with */
 };
 
 enum pralakuon_sheet_answer {
@@ -60,13 +67,15 @@ enum pralakuon_sheet_answer {
     PRALAKUON_SHEET_UNKNOWN_SETTINGS = 3 /* a bit that is not one of enum pralakuon_settings */
 };
 
-/* Begins a sheet without records in `out`. Any template can be written, a refused one, too. With any answer but 0
- * nothing is written, and the sheet takes no records. */
+/* Begins a sheet without records in `out`. Any template can be written, a refused one, too. With PRALAKUON_HEADS in the
+ * settings all its records are laid out with heads, also those that have none. With any answer but 0 nothing is written,
+ * and the sheet takes no records. */
 enum pralakuon_sheet_answer pralakuon_sheet_begin(struct pralakuon_sheet *sheet, uint8_t settings,
                                                   struct pralakuon_text template_, uint8_t *out, size_t out_len);
 
-/* Adds a record. Any can be written, a refused one, too; its texts stay whole. With any answer but 0 the sheet is as it
- * was. The sheet's bodies are moved by four bytes for each record. */
+/* Adds a record. Any can be written, a refused one, too; its texts stay whole. A head in a sheet without PRALAKUON_HEADS
+ * is only marked, and the record's line is `! 14`. With any answer but 0 the sheet is as it was. The sheet's bodies are
+ * moved by four bytes for each record. */
 enum pralakuon_sheet_answer pralakuon_sheet_push(struct pralakuon_sheet *sheet, const struct pralakuon_record *record);
 
 /* What a refusal means, in a few words. Never null: 0 and unknown numbers have a text, too. */

@@ -1,5 +1,5 @@
-//! Makes samples/: a wall scan as a session sheet in each of the three modes, one of a French crew, one whose template is
-//! refused, and what is printed of them. host/samples runs it.
+//! Makes samples/: a wall scan as a session sheet in each of the three modes, one of a French crew, one of two heads, one
+//! whose template is refused, and what is printed of them. host/samples runs it.
 
 use pralakuon::{session, HostRecord, Level, Record, Settings, SheetWriter};
 use std::error::Error;
@@ -11,6 +11,10 @@ const TEMPLATE: &str = "{t:>12} {[{L}]%bold%<9}|{gauge {c:>8}: {s:>24}%dimmed%40
 
 /// As a French crew writes it: a name is a whole run of letters, so `Température` and `relevé` are text.
 const FRENCH: &str = "{t:>12} {Température {L}%bold%<19}|{relevé : {s:>24}%dimmed%33}| {ff:>20}:{l}";
+
+/// Which head measured it stands in a column of its own. `<head>`, for a record that does not say, has six characters. The
+/// message is in a group, so that the tablet's is padded, too.
+const HEADS: &str = "{t:>12} {d:>6} {[{L}]%bold%<9}|{{s}%>24}|";
 
 /// As a technician mistyped it: the `%` ends the template, and the time is dropped with all that follows.
 const MISTYPED: &str = "{s} %{t}";
@@ -31,7 +35,8 @@ fn main() -> Result<(), Box<dyn Error>> {
         leave(name, scan(settings, TEMPLATE)?)?;
     }
     leave("strict", scan(Settings::PLAIN.with_strict(true), MISTYPED)?)?;
-    leave("mur", french_scan()?)
+    leave("mur", french_scan()?)?;
+    leave("wall-heads", scan_of_two_heads()?)
 }
 
 /// The scan: the device's readings, a print, and a word of the tablet itself.
@@ -79,5 +84,21 @@ fn french_scan() -> Result<Vec<u8>, Box<dyn Error>> {
     sheet.push(&loose.with_timestamp("10.002500"))?;
     sheet.push(&Record::print("fin du relevé du mur B3"))?;
     sheet.push(&tablet)?;
+    Ok(sheet.finish())
+}
+
+/// Two heads at one wall. The trolley has no head, a new one has no serial yet, and a print shows none.
+fn scan_of_two_heads() -> Result<Vec<u8>, Box<dyn Error>> {
+    let crack = |head, timestamp, message| Record::new(Level::Info, message).with_timestamp(timestamp).with_head(head);
+    let lost = crack("H-12", "10.002500", "reading lost, été").with_level(Level::Error);
+    let tablet = HostRecord::new(Level::Debug, "head changed").with_head("H-12");
+    let mut sheet = SheetWriter::new(Settings::PLAIN, HEADS.as_bytes())?;
+    sheet.push(&Record::new(Level::Warn, "wheel slipped").with_timestamp("9.995000"))?;
+    sheet.push(&crack("H-07", "9.997500", "wall B3 crack 0.412 mm"))?;
+    sheet.push(&crack("H-12", "10.000000", "wall B3 crack 0.388 mm"))?;
+    sheet.push(&lost)?;
+    sheet.push(&tablet)?;
+    sheet.push(&crack("", "10.005000", "wall B3 crack 0.391 mm"))?;
+    sheet.push(&Record::print("scan of wall B3 ends").with_head("H-07"))?;
     Ok(sheet.finish())
 }

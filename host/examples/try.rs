@@ -56,9 +56,10 @@ fn record(keys: &[String]) -> Result<RawRecord<'_>, String> {
             "line" => record.with_line(value.parse().map_err(|_| format!("no line number: {value}"))?),
             "module" => record.with_module_path(bytes),
             "time" => record.with_timestamp(bytes),
+            "head" => record.with_head(bytes),
             "source" if value == "host" => record.with_source(RawRecord::HOST),
             "source" if value == "device" => record.with_source(RawRecord::DEVICE),
-            _ => return Err(format!("unknown: {key} (keys: level message file line module time source)")),
+            _ => return Err(format!("unknown: {key} (keys: level message file line module time head source)")),
         };
     }
     Ok(record)

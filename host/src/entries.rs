@@ -26,7 +26,8 @@ extern "C" {
 // Why the calls are safe: each entry is proved for all bytes and asks nothing but that what it is lent is there for its
 // whole length and that `out` overlaps nothing else. Slices and `&mut` guarantee both.
 
-/// The line of a record, laid out as in a session sheet, at the front of `out`.
+/// The line of a record, laid out as in a session sheet, at the front of `out`. Bit 8 of the settings says that the record
+/// is laid out with a head.
 #[must_use]
 pub fn line(template: &[u8], settings: u8, record: &[u8], out: &mut [u8]) -> u64 {
     // SAFETY: three slices, `out` the only one that is written.

@@ -20,7 +20,7 @@ macro_rules! formatter {
             /// The line of a record, without a newline at its end.
             ///
             /// # Errors
-            /// [`FieldTooLong`](Refusal::FieldTooLong) where a text of the record is over 4,096 bytes.
+            /// [`FieldTooLong`](Refusal::FieldTooLong) where a text of the record is over 4,096 bytes, or its head over 32.
             pub fn format(&self, record: &$record) -> Result<String, Refusal> {
                 let mut line = String::new();
                 self.append(record, &mut line).map(|()| line)

@@ -56,6 +56,20 @@
 //! assert_eq!(point_at(template.as_bytes(), 4), "{s} %{t}\n    ^");
 //! ```
 //!
+//! # Heads
+//!
+//! Where several heads work one wall, a record can say which of them measured it: `{d}` shows the head's serial.
+//!
+//! ```
+//! use pralakuon::{Formatter, FormatterConfig, Level, Record};
+//!
+//! let formatter = Formatter::new(FormatterConfig::custom("{d:>6} [{L}] {s}"))?;
+//! let record = Record::new(Level::Info, "wall B3 crack 0.412 mm");
+//! assert_eq!(formatter.format(&record.with_head("H-07"))?, "  H-07 [INFO ] wall B3 crack 0.412 mm");
+//! assert_eq!(formatter.format(&record)?, "<head> [INFO ] wall B3 crack 0.412 mm");
+//! # Ok::<(), pralakuon::Refusal>(())
+//! ```
+//!
 //! # Session sheets
 //!
 //! A sheet holds a template and records, so that the same lines can be made of them years later. [`SheetWriter`] writes
@@ -93,6 +107,7 @@ mod config;
 // The one place where the archive is called.
 #[allow(unsafe_code)]
 pub mod entries;
+mod form;
 mod formatter;
 mod level;
 mod line;

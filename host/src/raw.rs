@@ -1,20 +1,21 @@
-//! A record as document 01 lays it out: the one way from records to bytes, and back.
+//! A record by its numbers and bytes: the one way from records to their layout, and back.
 
 use crate::bytes::Bytes;
+use crate::form::Form;
 use crate::{HostRecord, Level, Record};
-
-/// Bytes before the texts: source, level, mask, u32 line, four u16 lengths.
-const HEAD: usize = 3 + 4 + 4 * 2;
 
 /// One byte more than a field may have. A text cut here is refused as the whole would be, with 11, and it has a length
 /// that the layout can hold.
 const CUT: usize = Record::LONGEST_TEXT + 1;
 
+/// The same for a head's serial.
+const HEAD_CUT: usize = Record::LONGEST_HEAD + 1;
+
 /// A record by its numbers and bytes, as a session sheet holds it. Nothing of it is checked: what is wrong with it, the
 /// line call says.
 ///
-/// A file, a line or a module that is given is marked as present in the mask. Whoever wants another mask gives it last,
-/// with [`with_mask`](RawRecord::with_mask), which takes any byte as it is.
+/// A file, a line, a module or a head that is given is marked as present in the mask. Whoever wants another mask gives it
+/// last, with [`with_mask`](RawRecord::with_mask), which takes any byte as it is.
 ///
 /// ```
 /// use pralakuon::{line, RawRecord, Refusal, Settings};
@@ -35,7 +36,8 @@ pub struct RawRecord<'a> {
     pub source: u8,
     /// A level's number, or 0 for none.
     pub level: u8,
-    /// What is present: [`FILE`](RawRecord::FILE), [`LINE`](RawRecord::LINE), [`MODULE`](RawRecord::MODULE).
+    /// What is present: [`FILE`](RawRecord::FILE), [`LINE`](RawRecord::LINE), [`MODULE`](RawRecord::MODULE),
+    /// [`HEAD`](RawRecord::HEAD).
     pub mask: u8,
     /// 0 where it is absent.
     pub line: u32,
@@ -47,6 +49,8 @@ pub struct RawRecord<'a> {
     pub timestamp: &'a [u8],
     /// What happened.
     pub message: &'a [u8],
+    /// The serial of the head that measured it. Empty where it is absent.
+    pub head: &'a [u8],
 }
 
 impl<'a> RawRecord<'a> {
@@ -60,6 +64,8 @@ impl<'a> RawRecord<'a> {
     pub const LINE: u8 = 2;
     /// In the mask: there is a module.
     pub const MODULE: u8 = 4;
+    /// In the mask: there is a head.
+    pub const HEAD: u8 = 8;
 
     /// A print of the device with an empty message.
     #[must_use]
@@ -119,6 +125,14 @@ impl<'a> RawRecord<'a> {
         self
     }
 
+    /// With a head's serial, which is marked as present.
+    #[must_use]
+    pub fn with_head(mut self, head: &'a [u8]) -> Self {
+        self.head = head;
+        self.mask |= Self::HEAD;
+        self
+    }
+
     /// With this mask in place of what was marked before, whatever is present.
     #[must_use]
     pub fn with_mask(mut self, mask: u8) -> Self {
@@ -126,8 +140,14 @@ impl<'a> RawRecord<'a> {
         self
     }
 
-    /// With what is known of a place.
-    fn placed(mut self, file: Option<&'a str>, line: Option<u32>, module_path: Option<&'a str>) -> Self {
+    /// With what is known of where it comes from.
+    fn coming_from(
+        mut self,
+        file: Option<&'a str>,
+        line: Option<u32>,
+        module_path: Option<&'a str>,
+        head: Option<&'a str>,
+    ) -> Self {
         if let Some(file) = file {
             self = self.with_file(file.as_bytes());
         }
@@ -137,56 +157,80 @@ impl<'a> RawRecord<'a> {
         if let Some(module_path) = module_path {
             self = self.with_module_path(module_path.as_bytes());
         }
+        if let Some(head) = head {
+            self = self.with_head(head.as_bytes());
+        }
         self
     }
 
-    fn texts(&self) -> [&'a [u8]; 4] {
-        [self.file, self.module_path, self.timestamp, self.message]
+    /// The form that it needs: the old one, unless it speaks of a head.
+    pub(crate) fn form(&self) -> Form {
+        Form::by(self.mask & Self::HEAD != 0 || !self.head.is_empty())
+    }
+
+    fn texts(&self) -> [&'a [u8]; Form::WithHeads.texts()] {
+        [self.file, self.module_path, self.timestamp, self.message, self.head]
     }
 
     /// The same record with texts that can be laid out. A cut text is still refused.
     pub(crate) fn cut(self) -> Self {
-        let cut = |text: &'a [u8]| text.get(..CUT).unwrap_or(text);
+        let cut = |text: &'a [u8], longest| text.get(..longest).unwrap_or(text);
         RawRecord {
-            file: cut(self.file),
-            module_path: cut(self.module_path),
-            timestamp: cut(self.timestamp),
-            message: cut(self.message),
+            file: cut(self.file, CUT),
+            module_path: cut(self.module_path, CUT),
+            timestamp: cut(self.timestamp, CUT),
+            message: cut(self.message, CUT),
+            head: cut(self.head, HEAD_CUT),
             ..self
         }
     }
 
-    /// The bytes of its layout. Saturating, since one huge text may be lent four times.
-    pub(crate) fn size(&self) -> usize {
-        self.texts().iter().fold(HEAD, |sum, text| sum.saturating_add(text.len()))
+    /// The bytes of its layout. Saturating, since one huge text may be lent several times.
+    pub(crate) fn size(&self, form: Form) -> usize {
+        self.texts()[..form.texts()].iter().fold(form.numbers(), |sum, text| sum.saturating_add(text.len()))
     }
 
-    fn head(&self) -> [u8; HEAD] {
-        let mut head = [0; HEAD];
-        head[..3].copy_from_slice(&[self.source, self.level, self.mask]);
-        head[3..7].copy_from_slice(&self.line.to_le_bytes());
-        for (place, text) in head[7..].chunks_exact_mut(2).zip(self.texts()) {
+    /// The old form has no place for a head. One that is marked all the same has the record refused, with 14, where it
+    /// would be lost without a word.
+    fn mask_in(&self, form: Form) -> u8 {
+        if form.has_heads() || self.head.is_empty() {
+            self.mask
+        } else {
+            self.mask | Self::HEAD
+        }
+    }
+
+    /// What stands before the texts, in the longer form; of the shorter one it is the front.
+    fn numbers(&self, form: Form) -> [u8; Form::WithHeads.numbers()] {
+        let mut numbers = [0; Form::WithHeads.numbers()];
+        numbers[..3].copy_from_slice(&[self.source, self.level, self.mask_in(form)]);
+        numbers[3..7].copy_from_slice(&self.line.to_le_bytes());
+        for (place, text) in numbers[7..form.numbers()].chunks_exact_mut(2).zip(self.texts()) {
             let length = u16::try_from(text.len()).expect("a text to lay out is cut, or part of a sheet");
             place.copy_from_slice(&length.to_le_bytes());
         }
-        head
+        numbers
     }
 
     /// Lays it out at the end of `out`.
-    pub(crate) fn lay_out(&self, out: &mut Vec<u8>) {
-        out.extend_from_slice(&self.head());
-        for text in self.texts() {
+    pub(crate) fn lay_out(&self, form: Form, out: &mut Vec<u8>) {
+        out.extend_from_slice(&self.numbers(form)[..form.numbers()]);
+        for text in &self.texts()[..form.texts()] {
             out.extend_from_slice(text);
         }
     }
 
     /// None for a body of the wrong size.
-    pub(crate) fn read(body: &'a [u8]) -> Option<Self> {
+    pub(crate) fn read(body: &'a [u8], form: Form) -> Option<Self> {
         let mut rest = Bytes(body);
         let [source, level, mask] = rest.array()?;
         let line = rest.u32()?;
-        let lengths = [rest.u16()?, rest.u16()?, rest.u16()?, rest.u16()?];
-        let [file, module_path, timestamp, message] = lengths.map(|length| rest.take(length.into()));
+        // A text that the form has not is empty.
+        let mut lengths = [0; Form::WithHeads.texts()];
+        for length in &mut lengths[..form.texts()] {
+            *length = rest.u16()?;
+        }
+        let [file, module_path, timestamp, message, head] = lengths.map(|length| rest.take(length.into()));
         rest.end()?;
         Some(RawRecord {
             source,
@@ -197,6 +241,7 @@ impl<'a> RawRecord<'a> {
             module_path: module_path?,
             timestamp: timestamp?,
             message: message?,
+            head: head?,
         })
     }
 }
@@ -205,7 +250,7 @@ impl<'a> From<&Record<'a>> for RawRecord<'a> {
     fn from(record: &Record<'a>) -> Self {
         RawRecord::new()
             .with_level(record.level.map_or(0, Level::number))
-            .placed(record.file, record.line, record.module_path)
+            .coming_from(record.file, record.line, record.module_path, record.head)
             .with_timestamp(record.timestamp.as_bytes())
             .with_message(record.message.as_bytes())
     }
@@ -216,7 +261,7 @@ impl<'a> From<&HostRecord<'a>> for RawRecord<'a> {
         RawRecord::new()
             .with_source(RawRecord::HOST)
             .with_level(record.level.number())
-            .placed(record.file, record.line, record.module_path)
+            .coming_from(record.file, record.line, record.module_path, record.head)
             .with_message(record.message.as_bytes())
     }
 }

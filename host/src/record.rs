@@ -26,6 +26,13 @@ macro_rules! shared_builders {
             self
         }
 
+        /// With the serial of the head that measured it: a text, or an `Option` of one.
+        #[must_use]
+        pub fn with_head(mut self, head: impl Into<Option<&'a str>>) -> Self {
+            self.head = head.into();
+            self
+        }
+
         /// With this message in place of the one before.
         #[must_use]
         pub fn with_message(mut self, message: &'a str) -> Self {
@@ -63,11 +70,17 @@ pub struct Record<'a> {
     pub timestamp: &'a str,
     /// What happened: `{s}`.
     pub message: &'a str,
+    /// The serial of the head that measured it: `{d}`.
+    pub head: Option<&'a str>,
 }
 
 impl<'a> Record<'a> {
-    /// The most bytes that each of its texts may have. A longer one is refused with 11, and with it the record.
+    /// The most bytes that each of its texts but the head's serial may have. A longer one is refused with 11, and with it
+    /// the record.
     pub const LONGEST_TEXT: usize = 4_096;
+
+    /// The most bytes that a head's serial may have. A longer one is refused with 11, and with it the record.
+    pub const LONGEST_HEAD: usize = 32;
 
     /// A record of which only level and message are known.
     #[must_use]
@@ -121,13 +134,15 @@ pub struct HostRecord<'a> {
     pub module_path: Option<&'a str>,
     /// What happened: `{s}`.
     pub message: &'a str,
+    /// The serial of the head that it is about: `{d}`.
+    pub head: Option<&'a str>,
 }
 
 impl<'a> HostRecord<'a> {
     /// A record of which only level and message are known.
     #[must_use]
     pub fn new(level: Level, message: &'a str) -> Self {
-        HostRecord { level, file: None, line: None, module_path: None, message }
+        HostRecord { level, file: None, line: None, module_path: None, message, head: None }
     }
 
     /// With this level in place of the one before.

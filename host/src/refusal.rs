@@ -36,7 +36,7 @@ pub enum Refusal {
     TooManyF,
     /// 9: a backslash as the last byte where a closing brace is searched for.
     HalfEscape,
-    /// 11: a field over 4,096 bytes.
+    /// 11: a field over 4,096 bytes, or a head's serial over 32.
     FieldTooLong,
     /// 12: a field not UTF-8. Records of `&str` never meet it.
     FieldNotUtf8,
@@ -122,7 +122,7 @@ impl Refusal {
             Refusal::TooWide => (7, "the template asks for a width above 512"),
             Refusal::TooManyF => (8, "the template has a name of more than 255 f"),
             Refusal::HalfEscape => (9, "the template ends in a backslash where a closing brace is searched for"),
-            Refusal::FieldTooLong => (11, "a text of the record is over 4,096 bytes"),
+            Refusal::FieldTooLong => (11, "a text of the record is over 4,096 bytes, or its head over 32"),
             Refusal::FieldNotUtf8 => (12, "a text of the record is not UTF-8"),
             Refusal::LineTooLong { .. } => (13, "the line is longer than the buffer"),
             Refusal::NotARecord => (14, "the record has an unknown number or contradicts itself"),

@@ -65,7 +65,8 @@ impl Settings {
         self
     }
 
-    /// The settings byte of a sheet.
+    /// The settings byte of a line call. That of a sheet has the bit 8 besides where its records are laid out with heads
+    /// ([`Sheet::heads`](crate::Sheet::heads)), which changes nothing of how lines look and is no setting here.
     #[must_use]
     pub fn byte(self) -> u8 {
         u8::from(self.colour) * Self::COLOUR_BIT
@@ -73,7 +74,7 @@ impl Settings {
             + u8::from(self.strict) * Self::STRICT_BIT
     }
 
-    /// The settings of a settings byte; a byte with an unknown bit has none.
+    /// The settings of a byte; one with another bit has none.
     ///
     /// ```
     /// use pralakuon::Settings;

@@ -3,9 +3,8 @@
 
 mod common;
 
-use common::{printed, printed_alone, told};
-use pralakuon::{check, session, Refusal, Sheet, SheetWriter};
-use std::error::Error;
+use common::{printed, printed_alone, told, written};
+use pralakuon::{check, session, Refusal, Sheet};
 
 const LIST: &[u8] = include_bytes!("../../crates/replay/stdin");
 
@@ -72,21 +71,17 @@ fn a_session_is_its_lines() {
 }
 
 #[test]
-fn every_sheet_is_written_as_it_was_read() -> Result<(), Box<dyn Error>> {
+fn every_sheet_is_written_as_it_was_read() {
     for Case { sheet, .. } in cases() {
-        let read = Sheet::read(sheet)?;
-        let mut writer = SheetWriter::new(read.settings, read.template)?;
-        read.records.iter().try_for_each(|record| writer.push(record))?;
-        assert!(writer.finish() == sheet);
+        assert!(written(&Sheet::read(sheet).unwrap()) == sheet);
     }
-    Ok(())
 }
 
 /// What a session call answers to the same sheet in the other edition.
 fn in_edition(sheet: &Sheet, strict: bool) -> Result<Vec<u8>, Refusal> {
-    let mut writer = SheetWriter::new(sheet.settings.with_strict(strict), sheet.template).unwrap();
-    sheet.records.iter().for_each(|record| writer.push(record).unwrap());
-    session(&writer.finish())
+    let mut sheet = sheet.clone();
+    sheet.settings.strict = strict;
+    session(&written(&sheet))
 }
 
 /// The strict edition answers what the first answers, or that a template which the first reads is not used up.

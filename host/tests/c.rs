@@ -146,13 +146,14 @@ fn sanitizers_find_nothing() {
 }
 
 /// A sheet of records at the edges of what the types can hold.
-fn sheet_of_edges() -> Vec<u8> {
+fn sheet_of_edges(heads: bool) -> Vec<u8> {
     let texts = [0, 1, 255, 256, 4_095, 4_096, 4_097].map(|bytes| "x".repeat(bytes));
-    let mut writer = SheetWriter::new(Settings::STRAIGHT_COLOUR, b"\xff{").unwrap();
+    let mut writer = SheetWriter::with_heads(Settings::STRAIGHT_COLOUR, b"\xff{", heads).unwrap();
     for (i, text) in texts.iter().enumerate() {
         let mut record = Record::new(Level::ALL[i % 5], text);
         record.file = Some(&texts[i / 2]);
         record.timestamp = &texts[i / 3];
+        record.head = heads.then(|| texts[i / 2].as_str());
         writer.push(&record).unwrap();
         let mut record = HostRecord::new(Level::ALL[i % 5], &texts[i / 2]);
         record.line = Some(0x0102_0304 << i);
@@ -167,8 +168,9 @@ fn sheet_of_edges() -> Vec<u8> {
 fn the_pair_writes_what_the_crate_writes() {
     let program = in_c("pair");
     let sample = |name: &str| fs::read(host("../samples").join(name)).unwrap();
-    let samples = ["wall.sheet", "wall-crate.sheet", "wall-straight.sheet", "mur.sheet", "strict.sheet"].map(sample);
-    for sheet in samples.into_iter().chain([sheet_of_edges()]) {
+    let samples = ["wall", "wall-crate", "wall-straight", "mur", "strict", "wall-heads"];
+    let samples = samples.map(|name| sample(&format!("{name}.sheet")));
+    for sheet in samples.into_iter().chain([sheet_of_edges(false), sheet_of_edges(true)]) {
         assert!(run_with(Command::new(&program).arg("copy"), &sheet) == sheet);
     }
 }

@@ -1,6 +1,6 @@
 //! The examples of docs/GUIDE.md: each is run, and prints what the guide says; its code is code that is run.
 
-use pralakuon::{entries, point_at, Formatter, FormatterConfig, Refusal};
+use pralakuon::{entries, point_at, Formatter, FormatterConfig, Level, Record, Refusal};
 
 const GUIDE: &str = include_str!("../../docs/GUIDE.md");
 
@@ -29,11 +29,11 @@ struct Told {
     settings: u8,
     numbers: [u8; 2],
     line: Option<u32>,
-    texts: [Option<Vec<u8>>; 4],
+    texts: [Option<Vec<u8>>; 5],
 }
 
 fn told(line: &str) -> Told {
-    let mut told = Told { settings: 0, numbers: [0, 0], line: None, texts: [None, None, None, None] };
+    let mut told = Told { settings: 0, numbers: [0, 0], line: None, texts: Default::default() };
     for pair in line.split_whitespace() {
         let (key, value) = pair.split_once('=').expect("KEY=VALUE");
         match key {
@@ -48,6 +48,7 @@ fn told(line: &str) -> Told {
             "module" => told.texts[1] = Some(spelled(value)),
             "time" => told.texts[2] = Some(spelled(value)),
             "message" => told.texts[3] = Some(spelled(value)),
+            "head" => told.texts[4] = Some(spelled(value)),
             _ => panic!("the guide says {key} of a record"),
         }
     }
@@ -57,10 +58,13 @@ fn told(line: &str) -> Told {
 /// The record, laid out as the guide's table says.
 fn laid_out(told: &Told) -> Vec<u8> {
     let bit = |present: bool, bit| if present { bit } else { 0 };
-    let mask = bit(told.texts[0].is_some(), 1) + bit(told.line.is_some(), 2) + bit(told.texts[1].is_some(), 4);
+    let place = bit(told.texts[0].is_some(), 1) + bit(told.line.is_some(), 2) + bit(told.texts[1].is_some(), 4);
+    let mask = place + bit(told.texts[4].is_some(), 8);
     let mut bytes = vec![told.numbers[0], told.numbers[1], mask];
     bytes.extend(told.line.unwrap_or(0).to_le_bytes());
-    let texts: Vec<&[u8]> = told.texts.iter().map(|text| text.as_deref().unwrap_or_default()).collect();
+    // A head has a place only by the settings that say so.
+    let count = if told.settings & 8 == 0 { 4 } else { 5 };
+    let texts: Vec<&[u8]> = told.texts.iter().take(count).map(|text| text.as_deref().unwrap_or_default()).collect();
     for text in &texts {
         bytes.extend((text.len() as u16).to_le_bytes());
     }
@@ -119,7 +123,7 @@ fn quoted(language: &str) -> Vec<&'static str> {
 
 /// The guide's Rust stands here, too.
 #[test]
-fn the_guides_rust_is_run() {
+fn the_guides_rust_is_run() -> Result<(), Refusal> {
     for template in ["{s} {t}", "{s} %{t}"] {
         let config = FormatterConfig::custom(template).with_strict();
         if let Err(refusal @ Refusal::Dropped { place }) = Formatter::new(config) {
@@ -127,7 +131,12 @@ fn the_guides_rust_is_run() {
         }
         assert_eq!(Formatter::new(config).is_err(), template.contains('%'));
     }
-    assert!(quoted("rust").len() > 3 && quoted("rust").iter().all(|line| include_str!("guide.rs").contains(line)));
+    let formatter = Formatter::new(FormatterConfig::custom("{d:>6} {s}"))?;
+    let record = Record::new(Level::Info, "crack").with_head("H-07");
+    assert_eq!(formatter.format(&record)?, "  H-07 crack");
+
+    assert!(quoted("rust").len() > 6 && quoted("rust").iter().all(|line| include_str!("guide.rs").contains(line)));
+    Ok(())
 }
 
 /// The guide's C is of the tour, which tests/c.rs compiles and runs.
@@ -137,5 +146,5 @@ fn the_guides_c_is_of_the_tour() {
     for line in quoted("c") {
         assert!(tour.contains(&line) || line == "}", "the tour has no line {line}");
     }
-    assert!(quoted("c").len() > 4);
+    assert!(quoted("c").len() > 7);
 }

@@ -61,31 +61,33 @@ fn a_grown_line_is_the_same_at_every_length() {
 
 #[test]
 fn a_record_is_shown_field_by_field() {
-    let everything = "{t}|{L}|{c}|{m}|{F}|{ff}|{l:1}|{s}";
+    let everything = "{t}|{L}|{c}|{m}|{F}|{ff}|{l:1}|{d}|{s}";
     let device = formatter(everything, Settings::PLAIN);
     let full = Record::new(Level::Debug, "crack")
         .with_file("/head/src/gauge.rs")
         .with_line(4_294_967_295)
         .with_module_path("gauge::read")
-        .with_timestamp("0.25");
-    let shown = "0.25|DEBUG|gauge|gauge::read|/head/src/gauge.rs|src/gauge.rs|4294967295|crack";
+        .with_timestamp("0.25")
+        .with_head("H-07");
+    let shown = "0.25|DEBUG|gauge|gauge::read|/head/src/gauge.rs|src/gauge.rs|4294967295|H-07|crack";
     assert_eq!(device.format(&full).as_deref(), Ok(shown));
     let bare = Record::new(Level::Debug, "crack");
-    assert_eq!(device.format(&bare).as_deref(), Ok("<time>|DEBUG|<crate>|<mod path>|<file>|<file>|0|crack"));
+    assert_eq!(device.format(&bare).as_deref(), Ok("<time>|DEBUG|<crate>|<mod path>|<file>|<file>|0|<head>|crack"));
     // Present and empty is not absent.
-    let empty = bare.with_file("").with_module_path("").with_line(0);
-    assert_eq!(device.format(&empty).as_deref(), Ok("<time>|DEBUG|<crate>|||<file>|0|crack"));
+    let empty = bare.with_file("").with_module_path("").with_line(0).with_head("");
+    assert_eq!(device.format(&empty).as_deref(), Ok("<time>|DEBUG|<crate>|||<file>|0||crack"));
     assert_eq!(device.format(&full.with_level(None)).as_deref(), Ok("crack"));
 
     let host = HostFormatter::new(FormatterConfig::custom(everything)).unwrap();
     let full = HostRecord::new(Level::Trace, "closed")
         .with_file("/tablet/app.rs")
         .with_line(40)
-        .with_module_path("tablet::app");
-    let shown = "<time>|TRACE|tablet|tablet::app|/tablet/app.rs|tablet/app.rs|40|closed";
+        .with_module_path("tablet::app")
+        .with_head("H-12");
+    let shown = "<time>|TRACE|tablet|tablet::app|/tablet/app.rs|tablet/app.rs|40|H-12|closed";
     assert_eq!(host.format(&full).as_deref(), Ok(shown));
     let bare = HostRecord::new(Level::Trace, "closed");
-    assert_eq!(host.format(&bare).as_deref(), Ok("<time>|TRACE|<crate>|<mod path>|<file>|<file>|0|closed"));
+    assert_eq!(host.format(&bare).as_deref(), Ok("<time>|TRACE|<crate>|<mod path>|<file>|<file>|0|<head>|closed"));
 }
 
 #[test]
@@ -146,9 +148,11 @@ fn the_raw_form_of_a_record_is_the_record() {
     let record = Record::new(Level::Warn, "hello").with_line(7).with_module_path("a::b").with_timestamp("0.5");
     let raw = RawRecord::new().with_level(2).with_line(7).with_module_path(b"a::b");
     assert_eq!(RawRecord::from(&record), raw.with_timestamp(b"0.5").with_message(b"hello").with_mask(6));
-    let host = HostRecord::new(Level::Trace, "hello").with_file("f");
-    let raw = RawRecord::new().with_source(1).with_level(5).with_file(b"f");
-    assert_eq!(RawRecord::from(&host), raw.with_message(b"hello").with_mask(1));
+    let head = RawRecord::from(&record.with_head(""));
+    assert_eq!((head.mask, head.head), (14, &b""[..]));
+    let host = HostRecord::new(Level::Trace, "hello").with_file("f").with_head("H-12");
+    let raw = RawRecord::new().with_source(1).with_level(5).with_file(b"f").with_head(b"H-12");
+    assert_eq!(RawRecord::from(&host), raw.with_message(b"hello").with_mask(9));
 }
 
 #[test]
@@ -172,6 +176,7 @@ fn what_is_given_to_a_raw_record_is_marked_and_a_mask_is_taken_as_it_is() {
     let raw = RawRecord::new().with_file(b"f").with_line(7);
     assert_eq!(raw.mask, RawRecord::FILE | RawRecord::LINE);
     assert_eq!(raw.with_module_path(b"").mask, 7);
-    assert_eq!((raw.with_mask(0xf8).mask, raw.with_mask(0).file), (0xf8, &b"f"[..]));
-    assert_eq!(raw.with_mask(0xf8).with_module_path(b"m").mask, 0xfc);
+    assert_eq!(raw.with_head(b"").mask, 11);
+    assert_eq!((raw.with_mask(0xf0).mask, raw.with_mask(0).file), (0xf0, &b"f"[..]));
+    assert_eq!(raw.with_mask(0xf0).with_module_path(b"m").with_head(b"h").mask, 0xfc);
 }

@@ -156,7 +156,8 @@ fn with_field<'a>(field: usize, text: &'a [u8]) -> RawRecord<'a> {
         0 => record.with_file(text),
         1 => record.with_module_path(text),
         2 => record.with_timestamp(text),
-        _ => record.with_message(text),
+        3 => record.with_message(text),
+        _ => record.with_head(text),
     }
 }
 
@@ -198,7 +199,7 @@ fn r11_through_the_formatters() {
 #[test]
 fn r12_a_field_that_is_not_utf8() {
     let answer = |field, text: &[u8]| line_of(b"{s}", Settings::PLAIN, with_field(field, text));
-    for field in 0..4 {
+    for field in 0..5 {
         assert!(answer(field, "é".as_bytes()).is_ok());
         for text in [&b"\xc3"[..], b"\xff", b"\xed\xa0\x80"] {
             assert_eq!(answer(field, text), Err(Refusal::FieldNotUtf8), "field {field}");
@@ -238,7 +239,9 @@ fn r14_a_record_that_cannot_be() {
         host.with_level(1),
         host.with_level(5),
         device.with_line(u32::MAX).with_file(b"f").with_module_path(b"m"),
+        device.with_line(1).with_head(b"H-07"),
         device.with_mask(7),
+        device.with_mask(15),
     ];
     for record in possible {
         assert!(line_of(b"{s}", Settings::PLAIN, record).is_ok(), "{record:?}");
@@ -248,10 +251,12 @@ fn r14_a_record_that_cannot_be() {
         device.with_level(6),
         host.with_level(6),
         host.with_level(0),
-        device.with_mask(8),
+        device.with_mask(16),
+        device.with_mask(24),
         device.with_file(b"f").with_mask(6),
         device.with_line(1).with_mask(5),
         device.with_module_path(b"m").with_mask(3),
+        device.with_head(b"h").with_mask(7),
         // 14 comes before what is wrong with a text, also with one that had to be cut.
         device.with_file(&[0xff; 70_000]).with_mask(6),
     ];

@@ -2,10 +2,10 @@
 
 mod common;
 
-use common::{archive_refuses, hand_laid, hello, printed, printed_alone, sheet_of, PAINT};
+use common::{
+    archive_refuses, hand_laid, hand_laid_with_head, hello, printed, printed_alone, sample, sheet_of, written, PAINT,
+};
 use pralakuon::{session, session_into, HostRecord, Level, RawRecord, Record, Refusal, Settings, Sheet, SheetWriter};
-use std::fs;
-use std::path::Path;
 
 /// Document 01's example, byte for byte.
 const EXAMPLE: &[u8] = b"\x04\0\
@@ -15,22 +15,16 @@ const EXAMPLE: &[u8] = b"\x04\0\
     \0\0\0\0\0\0\0\0\0\0\0\0\0\x04\0boot\
     \x01\0\0\0\0\0\0\0\0\0\0\0\0\0\0";
 
+/// The same records in the layout with heads, the first with one.
+const EXAMPLE_WITH_HEADS: &[u8] = b"\x04\0\
+    \x0a\0\0\0\x1a\0\0\0\x15\0\0\0\x11\0\0\0\
+    \x08[{L}] {s}\
+    \0\x01\x08\0\0\0\0\0\0\0\0\0\0\x05\0\x04\0helloH-07\
+    \0\0\0\0\0\0\0\0\0\0\0\0\0\x04\0\0\0boot\
+    \x01\0\0\0\0\0\0\0\0\0\0\0\0\0\0\0\0";
+
 /// Those that have lines.
-const SAMPLES: [&str; 4] = ["wall", "wall-crate", "wall-straight", "mur"];
-
-fn sample(name: &str) -> Vec<u8> {
-    let path = Path::new(env!("CARGO_MANIFEST_DIR")).join("../samples").join(name);
-    fs::read(&path).unwrap_or_else(|error| panic!("{}: {error}", path.display()))
-}
-
-fn written(sheet: &Sheet) -> Vec<u8> {
-    let mut writer = SheetWriter::new(sheet.settings, sheet.template).unwrap();
-    for record in &sheet.records {
-        writer.push(record).unwrap();
-    }
-    assert_eq!(writer.size(), writer.clone().finish().len());
-    writer.finish()
-}
+const SAMPLES: [&str; 5] = ["wall", "wall-crate", "wall-straight", "mur", "wall-heads"];
 
 /// The reader and the archive say alike whether this is a sheet.
 fn judged_alike(bytes: &[u8]) -> bool {
@@ -53,13 +47,27 @@ fn the_example_is_written_byte_for_byte_and_printed() {
 }
 
 #[test]
+fn the_example_with_a_head_is_written_byte_for_byte_and_printed() {
+    let mut writer = SheetWriter::new(Settings::PLAIN, b"[{L}] {s}").unwrap();
+    writer.push(&Record::new(Level::Error, "hello").with_head("H-07")).unwrap();
+    writer.push(&Record::print("boot")).unwrap();
+    writer.push(RawRecord::new().with_source(RawRecord::HOST)).unwrap();
+    assert_eq!(writer.finish(), EXAMPLE_WITH_HEADS);
+    assert_eq!(session(EXAMPLE_WITH_HEADS), session(EXAMPLE));
+}
+
+#[test]
 fn the_example_is_read() {
     let sheet = Sheet::read(EXAMPLE).unwrap();
-    assert_eq!((sheet.settings, sheet.template), (Settings::PLAIN, &b"[{L}] {s}"[..]));
+    assert_eq!((sheet.settings, sheet.heads, sheet.template), (Settings::PLAIN, false, &b"[{L}] {s}"[..]));
     let device = RawRecord::new().with_level(1).with_message(b"hello");
     let print = RawRecord::new().with_message(b"boot");
     let host = RawRecord::new().with_source(1);
     assert_eq!(sheet.records, [device, print, host]);
+
+    let with_heads = Sheet::read(EXAMPLE_WITH_HEADS).unwrap();
+    assert_eq!((with_heads.settings, with_heads.heads, with_heads.template), (sheet.settings, true, sheet.template));
+    assert_eq!(with_heads.records, [device.with_head(b"H-07"), print, host]);
 }
 
 #[test]
@@ -69,7 +77,7 @@ fn every_kind_of_record_comes_back() {
         .with_line(0x0102_0304)
         .with_module_path("gauge::read")
         .with_timestamp("0.25");
-    let host = HostRecord::new(Level::Trace, "closed").with_line(40);
+    let host = HostRecord::new(Level::Trace, "closed").with_line(40).with_head("H-12");
     let wrong = RawRecord::new()
         .with_source(255)
         .with_level(254)
@@ -77,7 +85,8 @@ fn every_kind_of_record_comes_back() {
         .with_file(&[0xff; 300])
         .with_module_path(&[0; 5_000])
         .with_timestamp(b"\xc3")
-        .with_mask(253);
+        .with_head(&[0xff; 5_000])
+        .with_mask(245);
     let mut writer = SheetWriter::new(Settings::STRAIGHT_COLOUR, b"\xff{").unwrap();
     writer.push(&device).unwrap();
     writer.push(&host).unwrap();
@@ -215,21 +224,30 @@ fn every_truncation_is_judged_alike() {
     }
 }
 
-#[test]
-fn every_change_of_a_byte_is_judged_alike() {
-    let contents = 2 + 4 * 4;
+/// How many of the sheets that differ from this one in one byte are none.
+fn refused_by_a_byte(example: &[u8]) -> usize {
     let mut refused = 0;
-    for place in 0..EXAMPLE.len() {
-        let mut sheet = EXAMPLE.to_vec();
-        for byte in (0..=255).filter(|&byte| byte != EXAMPLE[place]) {
+    for place in 0..example.len() {
+        let mut sheet = example.to_vec();
+        for byte in (0..=255).filter(|&byte| byte != example[place]) {
             sheet[place] = byte;
             let no_sheet = judged_alike(&sheet);
-            assert!(no_sheet || place >= contents, "contents changed at {place} to {byte} still fit");
+            assert!(no_sheet || place >= CONTENTS, "contents changed at {place} to {byte} still fit");
             refused += usize::from(no_sheet);
         }
     }
-    // The contents, the settings' five unknown bits, the lengths of three records' texts.
-    assert_eq!(refused, contents * 255 + 248 + 3 * 8 * 255);
+    refused
+}
+
+/// How many bodies, and four lengths.
+const CONTENTS: usize = 2 + 4 * 4;
+
+#[test]
+fn every_change_of_a_byte_is_judged_alike() {
+    // The contents, the settings byte that says heads or has one of four unknown bits, the lengths of three records' texts.
+    assert_eq!(refused_by_a_byte(EXAMPLE), CONTENTS * 255 + 8 + 240 + 3 * 8 * 255);
+    // The same, where it says that there are no heads; the lengths of a fifth text.
+    assert_eq!(refused_by_a_byte(EXAMPLE_WITH_HEADS), CONTENTS * 255 + 8 + 240 + 3 * 10 * 255);
 }
 
 #[test]
@@ -237,6 +255,7 @@ fn odd_sheets_are_judged_alike() {
     let record = hand_laid(b"hello");
     let longer = [&record[..], b"!"].concat();
     let shorter = &record[..record.len() - 1];
+    let headed = hand_laid_with_head(b"hello", 8, b"H-07");
     let no_sheets = [
         vec![],
         vec![0],
@@ -244,8 +263,13 @@ fn odd_sheets_are_judged_alike() {
         vec![1, 0],
         sheet_of(&[]),
         sheet_of(&[b""]),
-        sheet_of(&[b"\x08{s}"]),
+        sheet_of(&[b"\x10{s}"]),
         sheet_of(&[b"\x80{s}"]),
+        // Of the other layout, and one byte too short for it.
+        sheet_of(&[b"\x08{s}", &record]),
+        sheet_of(&[b"\x08{s}", &headed, &record]),
+        sheet_of(&[b"\0{s}", &headed]),
+        sheet_of(&[b"\x08{s}", &headed[..16]]),
         sheet_of(&[b"\0{s}", b""]),
         sheet_of(&[b"\0{s}", &record[..14]]),
         sheet_of(&[b"\0{s}", &longer]),
@@ -260,7 +284,14 @@ fn odd_sheets_are_judged_alike() {
     for bytes in no_sheets {
         assert!(judged_alike(&bytes), "{bytes:?}");
     }
-    let sheets = [sheet_of(&[b"\0"]), sheet_of(&[b"\x07"]), sheet_of(&[b"\x04{s}"]), sheet_of(&[b"\x02{s}", &record])];
+    let sheets = [
+        sheet_of(&[b"\0"]),
+        sheet_of(&[b"\x0f"]),
+        sheet_of(&[b"\x04{s}"]),
+        sheet_of(&[b"\x02{s}", &record]),
+        sheet_of(&[b"\x08{s}"]),
+        sheet_of(&[b"\x0a{s}", &headed]),
+    ];
     for bytes in sheets {
         assert!(!judged_alike(&bytes), "{bytes:?}");
     }

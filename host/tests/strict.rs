@@ -3,7 +3,7 @@
 
 mod common;
 
-use common::{hand_laid, hello, line_of, sheet_of, PAINT};
+use common::{hand_laid, hand_laid_with_head, hello, line_of, sheet_of, PAINT};
 use pralakuon::{
     check, entries, line, names_timestamp, session, Formatter, FormatterConfig, FormatterFormat, HostFormatter, Level,
     RawRecord, Record, Refusal, Settings, Sheet, SheetWriter,
@@ -218,25 +218,41 @@ fn r17_is_the_low_byte_of_the_answer_and_the_place_stands_above_it() {
 }
 
 #[test]
-fn r15_comes_before_17_and_all_bits_above_strict_are_unknown() {
+fn r15_comes_before_17_and_all_bits_above_heads_are_unknown() {
     let record = hand_laid(b"hello");
+    let headed = hand_laid_with_head(b"hello", 8, b"H-07");
     let too_long = [b'x'; 1_025];
-    for settings in 8..=255 {
-        assert_eq!(Settings::from_byte(settings), None);
+    for settings in 16..=255 {
         for template in [&b"{s}"[..], b"{s} %{t}", b"{t}", &too_long] {
-            assert_eq!(numbers(template, settings, &record), [15; 4], "settings {settings}");
+            for record in [&record, &headed] {
+                assert_eq!(numbers(template, settings, record), [15; 4], "settings {settings}");
+            }
         }
     }
-    for settings in 0..8 {
-        assert_eq!(Settings::from_byte(settings).map(Settings::byte), Some(settings));
-        assert_eq!(Settings::from_byte(settings).map(|settings| settings.strict), Some(settings >= 4));
+    for settings in 0..16 {
+        let record = if settings < 8 { &record } else { &headed };
         assert_eq!(entries::check(b"{s}", settings), 0);
         assert_eq!(entries::timestamp(b"{t}{s}", settings), 256);
-        assert_eq!(entries::line(b"{s}", settings, &record, &mut [0; 80]), 5 * 256);
+        assert_eq!(entries::line(b"{s}", settings, record, &mut [0; 80]), 5 * 256);
+        if settings & 4 != 0 {
+            assert_eq!(numbers(b"{s} %{t}", settings, record), [17 + 256 * 4; 4], "settings {settings}");
+        }
     }
     // A record of the wrong size is no record, whatever the template says.
     let [check, timestamp, line, session] = numbers(b"{s} %{t}", 4, &record[1..]);
     assert_eq!([check, timestamp, line, session], [17 + 256 * 4, 17 + 256 * 4, 15, 15]);
+}
+
+/// The bit of the layout is no setting: what it says, the record says.
+#[test]
+fn settings_have_three_bits() {
+    for byte in 0..8 {
+        assert_eq!(Settings::from_byte(byte).map(Settings::byte), Some(byte));
+        assert_eq!(Settings::from_byte(byte).map(|settings| settings.strict), Some(byte >= 4));
+    }
+    for byte in 8..=255 {
+        assert_eq!(Settings::from_byte(byte), None);
+    }
 }
 
 #[test]

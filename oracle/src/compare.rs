@@ -3,6 +3,7 @@
 mod calls;
 pub(crate) mod case;
 mod found;
+mod heads;
 mod lent;
 mod listed;
 mod make;
@@ -50,6 +51,11 @@ pub fn run_letters() -> bool {
 /// The same over templates that leave something unused or nearly do.
 pub fn run_strict() -> bool {
     run_over(make::strict_count(), make::strict_case)
+}
+
+/// The same over templates in which `d` is tried as a name or nearly is.
+pub fn run_heads() -> bool {
+    run_over(make::head_count(), make::head_case)
 }
 
 fn run_over(count: u64, case: impl Fn(u64) -> (usize, Case) + Sync) -> bool {

@@ -1,9 +1,11 @@
-//! Document 01's examples, and letters and strict templates as document 02 decides them (E3, E5), held against the crate.
-//! Expected values are typed from the documents; where the port parts from the crate, the crate's own answer stands here and
-//! says so.
+//! Document 01's examples, and letters, strict templates and heads as document 02 decides them (E3, E5, E7), held against
+//! the crate. Expected values are typed from the documents; where the port parts from the crate, the crate's own answer
+//! stands here and says so.
+
+pub(crate) mod heads;
 
 use crate::judge::{self, Answer, Shown};
-use crate::ruling;
+use crate::ruling::{self, Names};
 use crate::sheet::{Record, Sheet, COLOUR, DEVICE, FILE, HOST, LINE, MODULE};
 use crate::strict;
 use crate::stub::format::{self, Template};
@@ -65,6 +67,9 @@ pub(crate) const PLAIN: &[(&str, &str)] = &[
     ("{s:red→}", "hello"),
     // the Kelvin sign where no colour word is tried
     ("{\u{212a} {s}}", "\u{212a} hello"),
+    // a `d` that is no name: dropped, or of a longer run
+    ("{s d}", "hello"),
+    ("{dx {s}}", "dx hello"),
     // groups
     ("{[{L}]%>9}|{s}", "  [INFO ]|hello"),
     ("{a{L}{b{s}}}", "aINFO bhello"),
@@ -130,11 +135,19 @@ pub(crate) const REFUSED: &[(&str, u8)] = &[
     ("{s:stri\u{212a}e}", 3),
     ("{s:ſtrike}", 3),
     ("{s:whİte}", 3),
+    // a `d` that is no name: of a longer run, a parameter's, or in the other case
+    ("{dd}{s}", 3),
+    ("{[{s}]%d}", 3),
+    ("{D}{s}", 3),
+    // a second specifier or inner segment here, a group without a specifier in the crate
+    ("{s:d}", 3),
+    ("{x{s%d}}", 3),
     // depth: eight bare pairs; nine opened and eight closed
     ("{{{{{{{{}}}}}}}}", 3),
     ("{{{{{{{{{}}}}}}}}", 4),
     // a specifier at depth 3 drops what nests below it, so depth 9 is never entered
     ("{a{b{c{d{e{f{g{h{s}}}}}}}}}", 3),
+    ("{a{b{d{e{g{h{i{j{s}}}}}}}}}", 3),
 ];
 
 /// Where the port refuses (number first) and the crate does this instead; colour off, as in `PLAIN`.
@@ -147,7 +160,7 @@ pub(crate) const PARTED: &[(u8, &str, Instead)] = &[
     (7, "{s:9999999999999999999999999}", Instead::Refused(3)),
     (7, "{x{s:9999999999999999999999999}}", Instead::Line("xhello")),
     (6, "{{{{{{{{{}}}}}}}}}", Instead::Refused(3)),
-    (6, "{a{b{d{e{g{h{i{j{s}}}}}}}}}", Instead::Refused(3)),
+    (6, "{a{b{e{g{h{i{j{k{s}}}}}}}}}", Instead::Refused(3)),
     (
         6,
         "{a{L}{a{L}{a{L}{a{L}{a{L}{a{L}{a{L}{a{L}{s}}}}}}}}}",
@@ -322,6 +335,7 @@ pub fn run() -> bool {
     let mut checks = Checks { checked: 0, parted: 0 };
     checks.tables();
     checks.strict();
+    checks.heads();
     checks.sheet();
     checks.hosts();
     checks.limits();
@@ -393,7 +407,7 @@ impl Checks {
     fn strict(&mut self) {
         for (template, expected, place) in STRICT {
             self.ask(0, template, &info(), line(expected));
-            let reading = ruling::template(template.as_bytes()).expect("read in the first edition");
+            let reading = ruling::template(template.as_bytes(), Names::All).expect("read in the first edition");
             self.same(template, *place, reading.unused.place());
             self.same(template, Ok(()), strict::judged(template, &reading));
         }
@@ -414,7 +428,7 @@ impl Checks {
         self.same("the sheet example", b"[ERROR] hello\nboot\n! 14\n".to_vec(), printed);
         let short = Sheet::read(&[1, 0, 0, 0, 0, 0]);
         self.same("a body 0 without a byte", Answer::Refused(15), judge::answer(short.as_ref()));
-        let unknown = Sheet { settings: 8, ..Sheet::default() }.write();
+        let unknown = Sheet { settings: 16, ..Sheet::default() }.write();
         let unknown = Sheet::read(&unknown);
         self.same("an unknown settings bit", Answer::Refused(15), judge::answer(unknown.as_ref()));
     }

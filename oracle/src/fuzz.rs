@@ -33,8 +33,9 @@ fn cases(input: Input) -> Vec<Case> {
         Input::Sheet(bytes) => vec![Case::Sheet(bytes)],
         Input::Loose(sheet) => {
             let record = &sheet.records[0];
+            let bytes = record.write(sheet.layout());
             vec![
-                Case::Line { template: sheet.template.clone(), record: record.write(), unknown: sheet.settings | 8 },
+                Case::Line { template: sheet.template.clone(), record: bytes, unknown: sheet.settings | 16 },
                 Case::Sheet(sheet.write()),
                 Case::BuiltIn([sheet.settings, record.source, record.level, record.mask]),
                 Case::Text(record.message.clone()),

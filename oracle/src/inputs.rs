@@ -1,6 +1,7 @@
 //! Inputs of the fuzzer. Byte 0 is the room beyond what is needed. After an even byte 1 the rest is a sheet as it is.
-//! After an odd one come settings, source, level, mask and u32 line, then template, file, module, timestamp and message
-//! between bytes 255, which are in no text: so a change of a text doesn't spoil the layout.
+//! After an odd one come settings, source, level, mask and u32 line, then template, file, module, timestamp, message and
+//! serial between bytes 255, which are in no text: so a change of a text doesn't spoil the layout, and a change of the
+//! settings lays the same record out anew.
 
 use crate::sample;
 use crate::sheet::{Record, Sheet};
@@ -32,7 +33,7 @@ fn read_loose(bytes: &[u8]) -> Option<Sheet> {
         return None;
     }
     let (head, texts) = bytes.split_at(LOOSE_HEAD);
-    let mut texts = texts.splitn(5, |byte| *byte == BETWEEN).map(<[u8]>::to_vec);
+    let mut texts = texts.splitn(6, |byte| *byte == BETWEEN).map(<[u8]>::to_vec);
     let mut next = || texts.next().unwrap_or_default();
     let template = next();
     let record = Record {
@@ -44,6 +45,7 @@ fn read_loose(bytes: &[u8]) -> Option<Sheet> {
         module: next(),
         timestamp: next(),
         message: next(),
+        head: next(),
     };
     Some(Sheet { settings: head[0], template, records: vec![record] })
 }
@@ -51,8 +53,8 @@ fn read_loose(bytes: &[u8]) -> Option<Sheet> {
 fn write_loose(sheet: &Sheet, record: &Record) -> Vec<u8> {
     let mut bytes = vec![0, LOOSE, sheet.settings, record.source, record.level, record.mask];
     bytes.extend(record.line.to_le_bytes());
-    let [file, module, timestamp, message] = record.fields();
-    bytes.extend([&sheet.template[..], file, module, timestamp, message].join(&BETWEEN));
+    let texts: Vec<&[u8]> = std::iter::once(&sheet.template[..]).chain(record.fields()).collect();
+    bytes.extend(texts.join(&BETWEEN));
     bytes
 }
 

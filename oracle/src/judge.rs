@@ -1,6 +1,6 @@
 //! Asks the crate. None of the port's limits is applied: these are the crate's own answers.
 
-use crate::sheet::{Record, Sheet, DEVICE};
+use crate::sheet::{Layout, Record, Sheet, DEVICE};
 use crate::stub::format::{self, Refusal, Template};
 use crate::stub::{DefmtRecord, Payload};
 use crate::tree::Segment;
@@ -42,7 +42,15 @@ pub fn answer(sheet: Option<&Sheet>) -> Answer {
     match read(template) {
         None => Answer::Panic,
         Some(Err(refusal)) => Answer::Refused(refusal as u8),
-        Some(Ok(template)) => Answer::Read(sheet.records.iter().map(|r| shown(&template, r)).collect()),
+        Some(Ok(template)) => Answer::Read(sheet.records.iter().map(|r| asked(&template, r, sheet.layout())).collect()),
+    }
+}
+
+fn asked(template: &Template, record: &Record, layout: Layout) -> Shown {
+    if record.is_possible(layout) {
+        shown(template, record)
+    } else {
+        Shown::Impossible(14)
     }
 }
 
@@ -62,11 +70,9 @@ pub fn read_unchecked(template: &str) -> Option<Result<Vec<Segment>, Refusal>> {
     quietly(|| Template::read_unchecked(template))
 }
 
-/// One record's line, under the colour that `set_colour` set last.
+/// The line of a record that is possible, under the colour that `set_colour` set last. The crate knows no heads, and is not
+/// given the serial.
 pub fn shown(template: &Template, record: &Record) -> Shown {
-    if !record.is_possible() {
-        return Shown::Impossible(14);
-    }
     match quietly(|| line(template, record)) {
         None => Shown::Panic,
         Some(None) => Shown::Impossible(12),
@@ -77,7 +83,7 @@ pub fn shown(template: &Template, record: &Record) -> Shown {
 /// None for a field that is no UTF-8.
 fn line(template: &Template, record: &Record) -> Option<String> {
     let text = |bytes| std::str::from_utf8(bytes).ok();
-    let [file, module, timestamp, message] = record.fields();
+    let [file, module, timestamp, message, _] = record.fields();
     let (file, module, timestamp, message) = (text(file)?, text(module)?, text(timestamp)?, text(message)?);
     let level = level(record.level);
     let mut builder = log::Record::builder();

@@ -5,6 +5,7 @@ pub mod compare;
 pub mod examples;
 #[cfg(feature = "fuzz")]
 mod fuzz;
+mod head;
 pub mod inputs;
 pub mod judge;
 mod kelvin;

@@ -1,6 +1,6 @@
 //! `pralakuon-oracle MODE`: README.md says what each mode reads and writes.
 
-use pralakuon_oracle::sheet::{Record, Sheet, COLOUR, FILE, LINE, MODULE, STRAIGHT, STRICT};
+use pralakuon_oracle::sheet::{Record, Sheet, COLOUR, FILE, HEAD, HEADS, LINE, MODULE, STRAIGHT, STRICT};
 use pralakuon_oracle::{examples, inputs, judge, meaning, sample, stream, VERSIONS};
 use std::io::{self, Read, Write};
 use std::process::ExitCode;
@@ -9,10 +9,10 @@ const USAGE: &str = "usage: pralakuon-oracle lines | segments | text | examples 
        pralakuon-oracle sample FILE [SEED]
        pralakuon-oracle meaning LIST CRATES FOLDER STEP
        pralakuon-oracle seeds LIST FOLDER
-       pralakuon-oracle compare N [SEED] | compare paths | bytes | letters | strict   (built by oracle/compare)
+       pralakuon-oracle compare N [SEED] | compare paths | bytes | letters | strict | heads   (built by oracle/compare)
        pralakuon-oracle speed              (built by oracle/speed)
-       pralakuon-oracle sheet [--colour] [--straight] [--strict] --template TEXT [--record KEY=VALUE,..]..
-       keys of a record: source level file line module timestamp message (the rest, commas too)";
+       pralakuon-oracle sheet [--colour] [--straight] [--strict] [--heads] --template TEXT [--record KEY=VALUE,..]..
+       keys of a record: source level file line module timestamp head message (the rest, commas too)";
 
 fn main() -> ExitCode {
     let words: Vec<String> = std::env::args().skip(1).collect();
@@ -62,13 +62,14 @@ fn usage() -> ExitCode {
 
 #[cfg(feature = "port")]
 fn compare(words: &[&str]) -> ExitCode {
-    use pralakuon_oracle::compare::{run, run_bytes, run_letters, run_paths, run_strict, SEED};
+    use pralakuon_oracle::compare::{run, run_bytes, run_heads, run_letters, run_paths, run_strict, SEED};
     let numbers: Option<Vec<u64>> = words.iter().map(|word| word.parse().ok()).collect();
     let alike = match (words, numbers.as_deref()) {
         (["paths"], _) => run_paths(),
         (["bytes"], _) => run_bytes(),
         (["letters"], _) => run_letters(),
         (["strict"], _) => run_strict(),
+        (["heads"], _) => run_heads(),
         (_, Some([count])) => run(*count, SEED),
         (_, Some([count, seed])) => run(*count, *seed),
         _ => return usage(),
@@ -99,6 +100,10 @@ fn sheet(mut options: &[&str]) -> Option<Sheet> {
             }
             ["--strict", rest @ ..] => {
                 sheet.settings |= STRICT;
+                rest
+            }
+            ["--heads", rest @ ..] => {
+                sheet.settings |= HEADS;
                 rest
             }
             ["--template", text, rest @ ..] => {
@@ -132,6 +137,7 @@ fn record(text: &str) -> Option<Record> {
             "line" => (record.line, record.mask) = (value.parse().ok()?, record.mask | LINE),
             "module" => (record.module, record.mask) = (bytes, record.mask | MODULE),
             "timestamp" => record.timestamp = bytes,
+            "head" => (record.head, record.mask) = (bytes, record.mask | HEAD),
             "message" => record.message = bytes,
             _ => return None,
         }

@@ -2,14 +2,16 @@
 
 pub(crate) mod cases;
 mod counts;
+mod heads;
 mod letters;
 mod limits;
 pub(crate) mod random;
 mod strict;
 
+use crate::head;
 use crate::judge::{self, Answer, Shown};
 use crate::kelvin;
-use crate::ruling;
+use crate::ruling::{self, Names};
 use crate::sheet::{Record, Sheet, DEVICE};
 use crate::VERSIONS;
 use cases::Case;
@@ -28,7 +30,7 @@ pub fn run(file: &str, seed: u64) -> io::Result<()> {
     let mut list = header(seed, cases.len()).into_bytes();
     let mut counts = counts::Counts::default();
     for case in &cases {
-        let answer = judge::answer_alone(&case.sheet);
+        let answer = judge::answer_alone(&head::asked(&case.sheet).expect("a stand-in for `d`"));
         check(case, &answer);
         let (sheet, output) = (case.sheet.write(), answer.printed());
         counts.add(case, &answer);
@@ -53,6 +55,7 @@ Cases: {count}
 After the first empty line, for each case: u8 N; u32 length and a session sheet; u32 length and the output. Little-endian.
 Output: what the port's program prints for the sheet if its lines are the crate's: each line and a newline, or `! 3` or
 `! 4` and a newline for the sheet; `panic` and a newline where the crate panics; `! 2`, `! 12` and `! 14` where it cannot be asked.
+The crate knows no heads. Where `d` may be tried as a name it is asked with F or m for it, and with the serial as file or module.
 N 0: the port prints the same.
 N 1, 2, 5 to 9, 11, 12: the port refuses with that number; the output is the crate's, which knows no such limit.
 N 17: the settings byte has bit 4, the strict edition, and the port refuses; the output is the crate's, which knows one edition.
@@ -87,9 +90,14 @@ fn sized(bytes: &[u8]) -> (&[u8], &[u8]) {
     rest.split_at(u32::from_le_bytes(length.try_into().unwrap()) as usize)
 }
 
-/// A case that is to be printed alike must be within every limit; a list with a wrong case is not written.
+/// A case that is to be printed alike must be within every limit, and the ruling must say the same; a list with a wrong case
+/// is not written.
 fn check(case: &Case, answer: &Answer) {
     let name = || String::from_utf8_lossy(&case.sheet.template).into_owned();
+    if case.number != LISTED {
+        let due = if case.number == 0 { answer.printed() } else { format!("! {}\n", case.number).into_bytes() };
+        assert!(ruling::printed(&case.sheet.write()) == due, "ruled otherwise: {:?}", name());
+    }
     let strictly = place(&case.sheet).is_some();
     assert_eq!(strictly, case.number == DROPPED, "in its edition: {:?}", name());
     if case.number == 0 {
@@ -105,16 +113,19 @@ fn check(case: &Case, answer: &Answer) {
 
 /// Where the sheet's template is refused with 17, which the crate must bear out.
 pub(crate) fn place(sheet: &Sheet) -> Option<usize> {
-    let reading = ruling::template(&sheet.template).ok().filter(|_| sheet.strict())?;
-    let template = std::str::from_utf8(&sheet.template).expect("what is read is UTF-8");
+    let place = ruling::template(&sheet.template, Names::All).ok().filter(|_| sheet.strict())?.unused.place();
+    let asked = head::asked(sheet).expect("a stand-in for `d`").template;
+    let reading = ruling::template(&asked, Names::Crates).expect("read as the other");
+    let template = std::str::from_utf8(&asked).expect("what is read is UTF-8");
     crate::strict::judged(template, &reading).expect("judged by the crate");
-    reading.unused.place()
+    assert_eq!(place, reading.unused.place(), "with a stand-in: {template:?}");
+    place
 }
 
-/// Sizes of document 01: template, fields, lines, the sheet; and records that it accepts.
+/// Sizes of document 01: template, fields, lines, the sheet; and records that it accepts, or that the crate's types cannot
+/// hold.
 fn within_sizes(sheet: &Sheet, answer: &Answer) -> bool {
-    let record =
-        |r: &Record| r.is_possible() && r.fields().iter().all(|f| f.len() <= 4096 && std::str::from_utf8(f).is_ok());
+    let record = |r: &Record| matches!(ruling::record(r, sheet.layout()), None | Some(14));
     let line = |shown: &Shown| !matches!(shown, Shown::Line(line) if line.len() > 65536);
     let lines = match answer {
         Answer::Read(lines) => lines.iter().all(line),

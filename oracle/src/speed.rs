@@ -7,7 +7,7 @@ mod timing;
 
 use crate::judge::set_colour;
 use crate::ruling::line::without_sequences;
-use crate::sheet::{Record, COLOUR, FILE, LINE, MODULE, STRAIGHT, STRICT};
+use crate::sheet::{Layout, Record, COLOUR, FILE, HEAD, HEADS, LINE, MODULE, STRAIGHT, STRICT};
 use crate::stub::format::{built_in, Template};
 use crate::stub::{DefmtRecord, Payload};
 use crate::VERSIONS;
@@ -53,6 +53,14 @@ fn gauge() -> Record {
     }
 }
 
+/// The same record, in the new layout with a serial, which no built-in shows.
+fn measured(layout: Layout) -> Vec<u8> {
+    match layout {
+        Layout::Old => gauge().write(layout),
+        Layout::New => Record { mask: gauge().mask | HEAD, head: b"H-07".to_vec(), ..gauge() }.write(layout),
+    }
+}
+
 /// The same record as the crate is given it.
 fn crates_line(template: &Template) -> String {
     let payload = Payload { level: Some(log::Level::Info), timestamp: TIMESTAMP.to_string() };
@@ -91,11 +99,12 @@ fn reading() {
 fn lines() {
     println!("| one line | setting | crate's `format`, ns | port, ns | crate / port | {RATE} a second |");
     println!("|---|---|---|---|---|---|");
-    let record = gauge().write();
+    let settings = [("plain", 0), ("coloured", COLOUR), ("straight", COLOUR | STRAIGHT), ("plain, with a head", HEADS)];
     for template in built_ins() {
         let read = Template::read(template).ok().expect("a built-in is read");
-        for (name, settings) in [("plain", 0), ("coloured", COLOUR), ("straight", COLOUR | STRAIGHT)] {
+        for (name, settings) in settings {
             set_colour(settings & COLOUR != 0);
+            let record = measured(Layout::of(settings));
             let mut out = [0; 1024];
             let mut ports = || entries::line(black_box(template.as_bytes()), settings, black_box(&record), &mut out);
             let answer = ports();

@@ -2,13 +2,14 @@
 //! drops or loses. But its segments can be held against the template, and it can be asked about the template changed.
 
 use crate::judge;
-use crate::ruling::{self, Reading};
+use crate::ruling::{self, Names, Reading};
 use crate::spelling::spells;
 use crate::stub::format::Refusal;
 use crate::tree::{Format, Segment};
 use std::ops::Range;
 
-/// An error where the crate does not bear the ruling out. It must have read the template, and as these segments.
+/// An error where the crate does not bear the ruling by its own names out. It must have read the template, and as these
+/// segments.
 pub fn judged(template: &str, Reading { segments, unused }: &Reading) -> Result<(), String> {
     let lost = || unused.lost.iter().flat_map(|lost| [lost.word.clone(), lost.separator..lost.separator + 1]);
     // Nothing else is unused: what is left is a spelling of what was read.
@@ -18,7 +19,7 @@ pub fn judged(template: &str, Reading { segments, unused }: &Reading) -> Result<
     let free = || unused.dropped.iter().map(|stretch| freely_changed(template, stretch));
     let kept = without(template, free().chain(lost()))?;
     expect(is_read_as(&kept, segments), "otherwise read, without what is unused", &kept)?;
-    let refused = ruling::template(kept.as_bytes()).map(|reading| reading.unused.place().is_some());
+    let refused = ruling::template(kept.as_bytes(), Names::Crates).map(|reading| reading.unused.place().is_some());
     let must_be = kept.len() > used.len();
     expect(refused == Ok(must_be), "in the strict edition, without what is unused", &kept)?;
     // What is dropped is not read: it may as well stand there twice, right behind itself or apart.

@@ -23,6 +23,8 @@ pub enum Specifier {
     LogLevel,
     ModulePath,
     Timestamp,
+    /// The port's own (document 02, E7).
+    HeadSerial,
 }
 
 #[derive(Clone, Debug, Default, PartialEq)]
@@ -107,6 +109,7 @@ fn specifier_name(specifier: Specifier) -> String {
         Specifier::LogLevel => "L".to_string(),
         Specifier::ModulePath => "m".to_string(),
         Specifier::Timestamp => "t".to_string(),
+        Specifier::HeadSerial => "d".to_string(),
     }
 }
 

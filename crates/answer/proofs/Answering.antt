@@ -17,10 +17,11 @@ use Rattle.colour.specs.Shown.{textOf, joined}
 use Rattle.segments.specs.Segments.{LogSegments}
 use Rattle.template.specs.declared.Edition.{Edition}
 use Rattle.template.specs.Template.{read, refusal, readBy}
+use Rattle.record.specs.declared.Form.{Form}
 use Rattle.record.specs.declared.Places.{Places}
 use Rattle.record.specs.Layout.{Laid, laidOut, rightSize}
 use Rattle.record.specs.Placed.{laidBy}
-use Rattle.checks.specs.Checks.{recordRefusal, badlyMarked, fieldRefusal, fieldsRefusal, orNext}
+use Rattle.checks.specs.Checks.{recordRefusal, badlyMarked, mostField, mostSerial, fieldRefusal, fieldsRefusal, orNext}
 use Rattle.record.specs.declared.Name.{Name}
 use Rattle.record.specs.declared.Level.{Level}
 use Rattle.record.specs.Levels.{levelOf}
@@ -32,7 +33,7 @@ use Rattle.rows.specs.Texts.{segmentsText}
 use Rattle.rows.specs.Rows.{Writable}
 use Rattle.packing.specs.declared.Answer.{Answer}
 use Rattle.answer.specs.Answers.{Outcome, line, refused, inRoom, passed, recordOutcome, bufferAfter, answerOf, packed, byTemplate, outcome, isCall, callOutcome}
-use Rattle.settings.specs.Bits.{isKnown, settingsOf, editionOf}
+use Rattle.settings.specs.Bits.{isKnown, settingsOf, editionOf, formOf}
 use Rattle.answer.specs.Rooms.{Accepted}
 use Rattle.packing.specs.Packing.{answerIn, packedAnswer}
 
@@ -58,12 +59,12 @@ buffer-in-room d x = by (leb (length x) (length d))
 
 -- ---- by the checks
 
-module _ (s : Settings) (t : List ℕ) (c : LogSegments) (l : Laid) (room : ℕ) where
-  pub passed-outcome : recordRefusal l ≡ none → recordOutcome s t c l room ≡ inRoom room (lineOf s t c (recordOf l))
+module _ (form : Form) (s : Settings) (t : List ℕ) (c : LogSegments) (l : Laid) (room : ℕ) where
+  pub passed-outcome : recordRefusal form l ≡ none → recordOutcome form s t c l room ≡ inRoom room (lineOf s t c (recordOf l))
   unfolding recordOutcome passed
   passed-outcome e = ap (passed s t c l room) e
 
-  pub refused-outcome : (r : Refusal) → recordRefusal l ≡ some r → recordOutcome s t c l room ≡ refused r
+  pub refused-outcome : (r : Refusal) → recordRefusal form l ≡ some r → recordOutcome form s t c l room ≡ refused r
   unfolding recordOutcome passed
   refused-outcome r e = ap (passed s t c l room) e
 
@@ -72,9 +73,9 @@ abbrev Unsized : Maybe Refusal → Type 0
 Unsized none = Unit {0}
 Unsized (some r) = valueWith r ≡ 0
 
-field-unsized : (x : List ℕ) → Unsized (fieldRefusal x)
+field-unsized : (most : ℕ) (x : List ℕ) → Unsized (fieldRefusal most x)
 unfolding fieldRefusal
-field-unsized x = by (leb (length x) 4096) (valid x)
+field-unsized most x = by (leb (length x) most) (valid x)
   where
     by : (a b : Bool) → Unsized (elim a [ true ↦ elim b [ true ↦ none | false ↦ some Refusal.FieldNotUtf8 ] | false ↦ some Refusal.FieldTooLong ])
     by true true = tt
@@ -86,19 +87,23 @@ unfolding orNext
 or-unsized none k h g = g
 or-unsized (some r) k h g = h
 
-record-unsized : (l : Laid) → Unsized (recordRefusal l)
+record-unsized : (form : Form) (l : Laid) → Unsized (recordRefusal form l)
 unfolding recordRefusal fieldsRefusal
-record-unsized l = by (badlyMarked l)
+record-unsized form l = by (badlyMarked form l)
   where
     fields : Unsized (fieldsRefusal l)
-    fields = or-unsized _ _ (field-unsized (l .file)) (or-unsized _ _ (field-unsized (l .modulePath)) (or-unsized _ _ (field-unsized (l .timestamp)) (field-unsized (l .message))))
+    fields =
+        or-unsized _ _ (field-unsized mostField (l .file))
+        (or-unsized _ _ (field-unsized mostField (l .modulePath))
+        (or-unsized _ _ (field-unsized mostField (l .timestamp))
+        (or-unsized _ _ (field-unsized mostField (l .message)) (field-unsized mostSerial (l .serial)))))
 
     by : (b : Bool) → Unsized (elim b [ true ↦ some Refusal.NotARecord | false ↦ fieldsRefusal l ])
     by true = refl
     by false = fields
 
-pub refusal-unsized : (l : Laid) (r : Refusal) → recordRefusal l ≡ some r → valueWith r ≡ 0
-refusal-unsized l r e = subst Unsized e (record-unsized l)
+pub refusal-unsized : (form : Form) (l : Laid) (r : Refusal) → recordRefusal form l ≡ some r → valueWith r ≡ 0
+refusal-unsized form l r e = subst Unsized e (record-unsized form l)
 
 -- ---- the line
 
@@ -120,22 +125,28 @@ module _ (s : Settings) (t : List ℕ) (c : LogSegments) (l : Laid) (x : Level) 
   unfolding recordShown
   line-level n k h = shown-as (Level.Named n k) h
 
-pub texts-short : (l : Laid) → recordRefusal l ≡ none → Short l
-texts-short l e =
-    let k = passes l e in
-    record { file = k .file .short; modulePath = k .modulePath .short; timestamp = k .timestamp .short; message = k .message .short }
+pub texts-short : (form : Form) (l : Laid) → recordRefusal form l ≡ none → Short l
+texts-short form l e =
+    let k = passes form l e in
+    record {
+      file = k .file .short;
+      modulePath = k .modulePath .short;
+      timestamp = k .timestamp .short;
+      message = k .message .short;
+      serial = omega (arith, k .serial .short);
+    }
 
 -- a row of the record's numbers
 module _ (cells t d : List ℕ) (n : ℕ) (p : Places) (numbers : List ℕ) (h : Accepted cells t d n p) (e : placesOf numbers ≡ p) where
-  pub writable : 12 ≤ length numbers → Writable cells t d numbers n
+  pub writable : 14 ≤ length numbers → Writable cells t d numbers n
   writable g = record {
-    readable = record { pool = h .pool; few = h .read .few; twelve = g; places = rw e (h .places) };
+    readable = record { pool = h .pool; few = h .read .few; row = g; places = rw e (h .places) };
     sound = h .read .sound;
     tidy = h .read .tidy;
     few = omega (arith, h .read .counted, h .read .few);
     low = h .read .low;
     template = h .template;
-    texts = rw e (texts-short (laidBy p d) (h .passes));
+    texts = rw e (h .texts);
   }
 
   pub record-by : recordBy numbers d ≡ recordOf (laidBy p d)
@@ -144,33 +155,33 @@ module _ (cells t d : List ℕ) (n : ℕ) (p : Places) (numbers : List ℕ) (h :
 
 -- ---- answers and buffers by the checks
 
-module _ (s : Settings) (t : List ℕ) (c : LogSegments) (l m : Laid) (e : l ≡ m) where
-  pub answer-passed : (room n : ℕ) (r : Answer) → recordRefusal l ≡ none → n ≡ length (lineOf s t c (recordOf l)) → r ≡ answerIn room n
-      → r ≡ answerOf (recordOutcome s t c m room)
+module _ (form : Form) (s : Settings) (t : List ℕ) (c : LogSegments) (l m : Laid) (e : l ≡ m) where
+  pub answer-passed : (room n : ℕ) (r : Answer) → recordRefusal form l ≡ none → n ≡ length (lineOf s t c (recordOf l)) → r ≡ answerIn room n
+      → r ≡ answerOf (recordOutcome form s t c m room)
   answer-passed room n r h k a =
       a
       ∙ ap (answerIn room) k
       ∙ answer-in-room room (lineOf s t c (recordOf l))
-      ∙ ap answerOf (sym (passed-outcome s t c l room h))
-      ∙ ap (λ (x : Laid). answerOf (recordOutcome s t c x room)) e
+      ∙ ap answerOf (sym (passed-outcome form s t c l room h))
+      ∙ ap (λ (x : Laid). answerOf (recordOutcome form s t c x room)) e
 
-  pub buffer-passed : (d o : List ℕ) → recordRefusal l ≡ none → o ≡ written d (lineOf s t c (recordOf l))
-      → o ≡ bufferAfter d (recordOutcome s t c m (length d))
+  pub buffer-passed : (d o : List ℕ) → recordRefusal form l ≡ none → o ≡ written d (lineOf s t c (recordOf l))
+      → o ≡ bufferAfter d (recordOutcome form s t c m (length d))
   buffer-passed d o h a =
       a
       ∙ buffer-in-room d (lineOf s t c (recordOf l))
-      ∙ ap (bufferAfter d) (sym (passed-outcome s t c l (length d) h))
-      ∙ ap (λ (x : Laid). bufferAfter d (recordOutcome s t c x (length d))) e
+      ∙ ap (bufferAfter d) (sym (passed-outcome form s t c l (length d) h))
+      ∙ ap (λ (x : Laid). bufferAfter d (recordOutcome form s t c x (length d))) e
 
-  pub answer-refused : (room : ℕ) (r : Refusal) → recordRefusal l ≡ some r → Answer.Refused r ≡ answerOf (recordOutcome s t c m room)
+  pub answer-refused : (room : ℕ) (r : Refusal) → recordRefusal form l ≡ some r → Answer.Refused r ≡ answerOf (recordOutcome form s t c m room)
   unfolding answerOf
   answer-refused room r h =
-      ap answerOf (sym (refused-outcome s t c l room r h)) ∙ ap (λ (x : Laid). answerOf (recordOutcome s t c x room)) e
+      ap answerOf (sym (refused-outcome form s t c l room r h)) ∙ ap (λ (x : Laid). answerOf (recordOutcome form s t c x room)) e
 
-  pub buffer-refused : (d : List ℕ) (r : Refusal) → recordRefusal l ≡ some r → d ≡ bufferAfter d (recordOutcome s t c m (length d))
+  pub buffer-refused : (d : List ℕ) (r : Refusal) → recordRefusal form l ≡ some r → d ≡ bufferAfter d (recordOutcome form s t c m (length d))
   unfolding bufferAfter
   buffer-refused d r h =
-      ap (bufferAfter d) (sym (refused-outcome s t c l (length d) r h)) ∙ ap (λ (x : Laid). bufferAfter d (recordOutcome s t c x (length d))) e
+      ap (bufferAfter d) (sym (refused-outcome form s t c l (length d) r h)) ∙ ap (λ (x : Laid). bufferAfter d (recordOutcome form s t c x (length d))) e
 
 -- ---- by the template and the call
 
@@ -180,27 +191,28 @@ unfolding packedAnswer answerOf packed
 packed-answer (line s) = refl
 packed-answer (refused r) = refl
 
-pub same-outcome : (e e′ : Edition) (s s′ : Settings) → e ≡ e′ → s ≡ s′ → (t : List ℕ) (l : Laid) (room : ℕ) → outcome e s t l room ≡ outcome e′ s′ t l room
-same-outcome e e′ s s′ p q t l room = λ k. outcome (p k) (q k) t l room
+pub same-outcome : (f f′ : Form) (e e′ : Edition) (s s′ : Settings) → f ≡ f′ → e ≡ e′ → s ≡ s′ → (t d : List ℕ) (room : ℕ)
+    → outcome f e s t (laidOut f d) room ≡ outcome f′ e′ s′ t (laidOut f′ d) room
+same-outcome f f′ e e′ s s′ o p q t d room = λ k. outcome (o k) (p k) (q k) t (laidOut (o k) d) room
 
-module _ (edition : Edition) (s : Settings) (t : List ℕ) (l : Laid) (room : ℕ) where
-  pub read-outcome : (c : LogSegments) → readBy edition t ≡ read c → recordOutcome s t c l room ≡ outcome edition s t l room
+module _ (form : Form) (edition : Edition) (s : Settings) (t : List ℕ) (l : Laid) (room : ℕ) where
+  pub read-outcome : (c : LogSegments) → readBy edition t ≡ read c → recordOutcome form s t c l room ≡ outcome form edition s t l room
   unfolding outcome byTemplate
-  read-outcome c e = ap (byTemplate s t l room) (sym e)
+  read-outcome c e = ap (byTemplate form s t l room) (sym e)
 
-  pub unread-outcome : (r : Refusal) → readBy edition t ≡ refusal r → refused r ≡ outcome edition s t l room
+  pub unread-outcome : (r : Refusal) → readBy edition t ≡ refusal r → refused r ≡ outcome form edition s t l room
   unfolding outcome byTemplate
-  unread-outcome r e = ap (byTemplate s t l room) (sym e)
+  unread-outcome r e = ap (byTemplate form s t l room) (sym e)
 
 module _ (settings : ℕ) (t d : List ℕ) (room : ℕ) where
   pub unknown-bit : isKnown settings ≡ false → refused Refusal.NotASheet ≡ callOutcome settings t d room
   unfolding callOutcome isCall
   unknown-bit h = rw (h, callOutcome)
 
-  pub wrong-size : isKnown settings ≡ true → rightSize d ≡ false → refused Refusal.NotASheet ≡ callOutcome settings t d room
+  pub wrong-size : isKnown settings ≡ true → rightSize (formOf settings) d ≡ false → refused Refusal.NotASheet ≡ callOutcome settings t d room
   unfolding callOutcome isCall
   wrong-size h e = rw (h, e, callOutcome)
 
-  pub is-call : isKnown settings ≡ true → rightSize d ≡ true → outcome (editionOf settings) (settingsOf settings) t (laidOut d) room ≡ callOutcome settings t d room
+  pub is-call : isKnown settings ≡ true → rightSize (formOf settings) d ≡ true → outcome (formOf settings) (editionOf settings) (settingsOf settings) t (laidOut (formOf settings) d) room ≡ callOutcome settings t d room
   unfolding callOutcome isCall
   is-call h e = rw (h, e, callOutcome)

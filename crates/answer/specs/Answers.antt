@@ -11,11 +11,12 @@ use Rattle.refusals.specs.declared.Refusal.{Refusal}
 use Rattle.refusals.specs.Numbers.{number, valueWith}
 use Rattle.packing.specs.declared.Answer.{Answer}
 use Rattle.colour.specs.declared.Settings.{Settings}
-use Rattle.settings.specs.Bits.{isKnown, settingsOf, editionOf}
+use Rattle.settings.specs.Bits.{isKnown, settingsOf, editionOf, formOf}
 use Rattle.segments.specs.Segments.{LogSegments}
 use Rattle.template.specs.declared.Edition.{Edition}
 use Rattle.template.specs.Template.{Template, read, refusal, readBy}
 use Rattle.fields.specs.Lines.{lineOf}
+use Rattle.record.specs.declared.Form.{Form}
 use Rattle.record.specs.Layout.{Laid, rightSize, laidOut}
 use Rattle.checks.specs.Checks.{recordRefusal}
 use Rattle.record.specs.Contents.{recordOf}
@@ -34,19 +35,19 @@ unfoldable pub passed : Settings → List ℕ → LogSegments → Laid → ℕ �
 passed settings t s d room none = inRoom room (lineOf settings t s (recordOf d))
 passed settings t s d room (some r) = refused r
 
--- the record d by a template that was read
-unfoldable pub recordOutcome : Settings → List ℕ → LogSegments → Laid → ℕ → Outcome
-recordOutcome settings t s d room = passed settings t s d room (recordRefusal d)
+-- the record d, laid out in that form, by a template that was read: the form decides on its checks alone
+unfoldable pub recordOutcome : Form → Settings → List ℕ → LogSegments → Laid → ℕ → Outcome
+recordOutcome form settings t s d room = passed settings t s d room (recordRefusal form d)
 
 -- the record d by what reading the template gave
-unfoldable pub byTemplate : Settings → List ℕ → Laid → ℕ → Template → Outcome
-byTemplate settings t d room (read s) = recordOutcome settings t s d room
-byTemplate settings t d room (refusal r) = refused r
+unfoldable pub byTemplate : Form → Settings → List ℕ → Laid → ℕ → Template → Outcome
+byTemplate form settings t d room (read s) = recordOutcome form settings t s d room
+byTemplate form settings t d room (refusal r) = refused r
 
--- Order: 1; 2; then 3 and 5 to 9; 4; 17; 14; "then for file, module, timestamp, message in turn 11 before 12; 13": the record d by the
--- template t in that edition, with so much room in the lent buffer
-unfoldable pub outcome : Edition → Settings → List ℕ → Laid → ℕ → Outcome
-outcome edition settings t d room = byTemplate settings t d room (readBy edition t)
+-- Order: 1; 2; then 3 and 5 to 9; 4; 17; 14; "then for file, module, timestamp, message in turn 11 before 12; 13", the serial's after the message's: the record d
+-- in that form by the template t in that edition, with so much room in the lent buffer
+unfoldable pub outcome : Form → Edition → Settings → List ℕ → Laid → ℕ → Outcome
+outcome form edition settings t d room = byTemplate form settings t d room (readBy edition t)
 
 -- "Every refusal leaves lent memory as found. An accepted line changes only its own bytes at the front of the buffer"
 unfoldable pub bufferAfter : List ℕ → Outcome → List ℕ
@@ -67,13 +68,13 @@ pub record Meets (o : Outcome) (lent left : List ℕ) (answer : ℕ) : Type 0 wh
 
 -- "an unknown settings bit or a record of the wrong size is 15", in a call as in a sheet
 unfoldable pub isCall : ℕ → List ℕ → Bool
-isCall settings d = isKnown settings && rightSize d
+isCall settings d = isKnown settings && rightSize (formOf settings) d
 
 -- the outcome of a call with so much room
 unfoldable pub callOutcome : ℕ → List ℕ → List ℕ → ℕ → Outcome
 callOutcome settings t d room =
     elim (isCall settings d) [
-      | true ↦ outcome (editionOf settings) (settingsOf settings) t (laidOut d) room
+      | true ↦ outcome (formOf settings) (editionOf settings) (settingsOf settings) t (laidOut (formOf settings) d) room
       | false ↦ refused Refusal.NotASheet
     ]
 

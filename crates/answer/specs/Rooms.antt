@@ -4,31 +4,31 @@ use mathlib.Core.Path.{_≡_}
 use mathlib.Core.Bool.{true}
 use mathlib.Core.List.{List}
 use lib.ListN.{length}
-use Rattle.buffer.specs.Table.{Maybe, none}
 use Rattle.colour.specs.declared.Settings.{Settings}
 use Rattle.segments.specs.Pool.{chainAt}
 use Rattle.template.specs.Parsing.{ReadKeeps}
+use Rattle.record.specs.declared.Form.{Form}
 use Rattle.record.specs.declared.Places.{Places}
 use Rattle.record.specs.Layout.{rightSize, laidOut}
 use Rattle.record.specs.Placed.{laidBy, PlacesWithin}
-use Rattle.checks.specs.Checks.{recordRefusal}
+use Rattle.leaves.specs.Places.{Short}
 use Rattle.answer.specs.Answers.{Outcome, recordOutcome}
 
 -- the record with the bytes d, by the template t that was read as the first n segments of a pool, with so much room
-abbrev pub outcomeBy : Settings → List ℕ → List ℕ → ℕ → List ℕ → ℕ → Outcome
-outcomeBy s t cells n d room = recordOutcome s t (chainAt cells n) (laidOut d) room
+abbrev pub outcomeBy : Form → Settings → List ℕ → List ℕ → ℕ → List ℕ → ℕ → Outcome
+outcomeBy form s t cells n d room = recordOutcome form s t (chainAt cells n) (laidOut form d) room
 
 -- a template that was read and a record of the right size: what a line call asks
-pub record Asked (cells t d : List ℕ) (n : ℕ) : Type 0 where
+pub record Asked (form : Form) (cells t d : List ℕ) (n : ℕ) : Type 0 where
   pub pool : 512 ≤ length cells
   pub read : ReadKeeps cells n
   pub template : length t ≤ 1024
-  pub size : rightSize d ≡ true
+  pub size : rightSize form d ≡ true
 
--- the same, with the places of a record that passed its checks
+-- the same, with the places of a record that passed its checks, whatever its form: no text of it is too long
 pub record Accepted (cells t d : List ℕ) (n : ℕ) (p : Places) : Type 0 where
   pub pool : 512 ≤ length cells
   pub read : ReadKeeps cells n
   pub template : length t ≤ 1024
   pub places : PlacesWithin (length d) p
-  pub passes : recordRefusal (laidBy p d) ≡ none
+  pub texts : Short (laidBy p d)

@@ -5,6 +5,7 @@ use colour::Settings;
 use line::write_line;
 use packing::Answer;
 use packing::answer_in;
+use record::Form;
 use record::Level;
 use record::Places;
 use record::layout::places_in;
@@ -12,6 +13,7 @@ use record::layout::right_size;
 use record::levels::level_of;
 use refusals::Refusal;
 use settings::edition_of;
+use settings::form_of;
 use settings::is_known;
 use settings::settings_of;
 use template::Edition;
@@ -72,6 +74,8 @@ fn put_segments(
         p.timestamp_to,
         p.message_from,
         p.message_to,
+        p.serial_from,
+        p.serial_to,
     ];
     write_line(cells, n, t, d, &numbers, s, out)
 }
@@ -99,6 +103,7 @@ fn put_line(
 
 // The answer for the record d where there is so much room. The line is written where the buffer has room for it: measuring lends none.
 fn answer_record(
+    form: Form,
     cells: &[usize],
     n: usize,
     t: &[u8],
@@ -107,13 +112,13 @@ fn answer_record(
     room: usize,
     out: &mut [u8],
 ) -> Answer
-    requires { ⌜ Asked (now cells) (now t) (now d) n ⌝ }
-    ensures answer { λ r. ⌜ r ≡ answerOf (outcomeBy s (now (t .entry)) (now (cells .entry)) n (now (d .entry)) room) ⌝ }
-    ensures buffer { λ r. ⌜ now (out .exit) ≡ bufferAfter (now (out .entry)) (outcomeBy s (now (t .entry)) (now (cells .entry)) n (now (d .entry)) (length (now (out .entry)))) ⌝ }
+    requires { ⌜ Asked form (now cells) (now t) (now d) n ⌝ }
+    ensures answer { λ r. ⌜ r ≡ answerOf (outcomeBy form s (now (t .entry)) (now (cells .entry)) n (now (d .entry)) room) ⌝ }
+    ensures buffer { λ r. ⌜ now (out .exit) ≡ bufferAfter (now (out .entry)) (outcomeBy form s (now (t .entry)) (now (cells .entry)) n (now (d .entry)) (length (now (out .entry)))) ⌝ }
     ensures packable { λ r. ⌜ Packable r ⌝ }
 {
-    let p = places_in(d);
-    let c = check_record(d, p);
+    let p = places_in(form, d);
+    let c = check_record(form, d, p);
     match c {
         Checked::Passed => answer_in(room, put_line(cells, n, t, s, d, p, out)),
         Checked::Refused(r) => Answer::Refused(r),
@@ -122,6 +127,7 @@ fn answer_record(
 
 // The record d by a template t that was read: n segments in the pool.
 pub fn record_line(
+    form: Form,
     cells: &[usize],
     n: usize,
     t: &[u8],
@@ -129,16 +135,17 @@ pub fn record_line(
     d: &[u8],
     out: &mut [u8],
 ) -> Answer
-    requires { ⌜ (512 ≤ length (now cells)) × (ReadKeeps (now cells) n × ((length (now t) ≤ 1024) × (rightSize (now d) ≡ true))) ⌝ }
-    ensures answer { λ r. ⌜ r ≡ answerOf (outcomeBy s (now (t .entry)) (now (cells .entry)) n (now (d .entry)) (length (now (out .entry)))) ⌝ }
-    ensures buffer { λ r. ⌜ now (out .exit) ≡ bufferAfter (now (out .entry)) (outcomeBy s (now (t .entry)) (now (cells .entry)) n (now (d .entry)) (length (now (out .entry)))) ⌝ }
+    requires { ⌜ (512 ≤ length (now cells)) × (ReadKeeps (now cells) n × ((length (now t) ≤ 1024) × (rightSize form (now d) ≡ true))) ⌝ }
+    ensures answer { λ r. ⌜ r ≡ answerOf (outcomeBy form s (now (t .entry)) (now (cells .entry)) n (now (d .entry)) (length (now (out .entry)))) ⌝ }
+    ensures buffer { λ r. ⌜ now (out .exit) ≡ bufferAfter (now (out .entry)) (outcomeBy form s (now (t .entry)) (now (cells .entry)) n (now (d .entry)) (length (now (out .entry)))) ⌝ }
 {
     let room = out.len();
-    answer_record(cells, n, t, s, d, room, out)
+    answer_record(form, cells, n, t, s, d, room, out)
 }
 
 // The same answer, and nothing is written.
 pub fn measure_record(
+    form: Form,
     cells: &[usize],
     n: usize,
     t: &[u8],
@@ -146,24 +153,31 @@ pub fn measure_record(
     d: &[u8],
     room: usize,
 ) -> Answer
-    requires { ⌜ (512 ≤ length (now cells)) × (ReadKeeps (now cells) n × ((length (now t) ≤ 1024) × (rightSize (now d) ≡ true))) ⌝ }
-    ensures { λ r. ⌜ r ≡ answerOf (outcomeBy s (now (t .entry)) (now (cells .entry)) n (now (d .entry)) room) ⌝ }
+    requires { ⌜ (512 ≤ length (now cells)) × (ReadKeeps (now cells) n × ((length (now t) ≤ 1024) × (rightSize form (now d) ≡ true))) ⌝ }
+    ensures { λ r. ⌜ r ≡ answerOf (outcomeBy form s (now (t .entry)) (now (cells .entry)) n (now (d .entry)) room) ⌝ }
 {
     let mut none: [u8; 0] = [];
-    answer_record(cells, n, t, s, d, room, &mut none)
+    answer_record(form, cells, n, t, s, d, room, &mut none)
 }
 
 // The record d by the template t, which is read for it alone.
-fn read_and_answer(edition: Edition, t: &[u8], s: Settings, d: &[u8], out: &mut [u8]) -> Answer
-    requires { ⌜ rightSize (now d) ≡ true ⌝ }
-    ensures answer { λ r. ⌜ r ≡ answerOf (outcome edition s (now (t .entry)) (laidOut (now (d .entry))) (length (now (out .entry)))) ⌝ }
-    ensures buffer { λ r. ⌜ now (out .exit) ≡ bufferAfter (now (out .entry)) (outcome edition s (now (t .entry)) (laidOut (now (d .entry))) (length (now (out .entry)))) ⌝ }
+fn read_and_answer(
+    form: Form,
+    edition: Edition,
+    t: &[u8],
+    s: Settings,
+    d: &[u8],
+    out: &mut [u8],
+) -> Answer
+    requires { ⌜ rightSize form (now d) ≡ true ⌝ }
+    ensures answer { λ r. ⌜ r ≡ answerOf (outcome form edition s (now (t .entry)) (laidOut form (now (d .entry))) (length (now (out .entry)))) ⌝ }
+    ensures buffer { λ r. ⌜ now (out .exit) ≡ bufferAfter (now (out .entry)) (outcome form edition s (now (t .entry)) (laidOut form (now (d .entry))) (length (now (out .entry)))) ⌝ }
     ensures packable { λ r. ⌜ Packable r ⌝ }
 {
     let mut cells: [usize; 512] = [0; 512];
     let read = parse(edition, t, &mut cells);
     match read {
-        Parsed::Read(n) => answer_record(&cells, n, t, s, d, out.len(), out),
+        Parsed::Read(n) => answer_record(form, &cells, n, t, s, d, out.len(), out),
         Parsed::Refused(r) => Answer::Refused(r),
     }
 }
@@ -177,8 +191,9 @@ pub fn line(t: &[u8], settings: u8, d: &[u8], out: &mut [u8]) -> Answer
     if !is_known(settings) {
         return Answer::Refused(Refusal::NotASheet);
     }
-    if right_size(d) {
-        return read_and_answer(edition_of(settings), t, settings_of(settings), d, out);
+    let form = form_of(settings);
+    if right_size(form, d) {
+        return read_and_answer(form, edition_of(settings), t, settings_of(settings), d, out);
     }
     Answer::Refused(Refusal::NotASheet)
 }

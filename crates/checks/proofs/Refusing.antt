@@ -12,11 +12,12 @@ use Rattle.buffer.specs.Bytes.{part}
 use Rattle.buffer.specs.Table.{Maybe, none, some}
 use Rattle.buffer.proofs.Parts.{part-length}
 use Rattle.refusals.specs.declared.Refusal.{Refusal}
+use Rattle.record.specs.declared.Form.{Form}
 use Rattle.record.specs.declared.Places.{Places}
 use Rattle.record.specs.Layout.{Laid}
 use Rattle.record.specs.Placed.{laidBy, PlacesWithin}
-use Rattle.checks.specs.Checks.{hostWithoutLevel, badNumbers, absentButThere, badlyMarked, fieldRefusal, orNext, fieldsRefusal, recordRefusal}
-use Rattle.record.specs.Contents.{hasFile, hasLine, hasModule}
+use Rattle.checks.specs.Checks.{hostWithoutLevel, mostMask, badNumbers, absentButThere, absentField, badlyMarked, mostField, mostSerial, fieldRefusal, orNext, fieldsRefusal, recordRefusal}
+use Rattle.record.specs.Contents.{hasFile, hasLine, hasModule, hasSerial}
 
 -- ---- four tests, one after the other
 
@@ -61,42 +62,53 @@ module _ (source number : ℕ) where
   pub of-refused : 5 < number → true ≡ (ltb 5 number || hostWithoutLevel source number)
   of-refused h = rw (lt-ltb 5 number h)
 
--- the parts of refusal 14, told of places
-pub marked : (p : Places) (d : List ℕ) → PlacesWithin (length d) p → badlyMarked (laidBy p d)
-    ≡ (badNumbers (p .source) (p .level) (p .mask)
-    || absentButThere (eqb (p .mask % 2) 1) (p .«file_to» - p .«file_from»)
+-- the fields of refusal 14, told of places
+pub absent-told : (p : Places) (d : List ℕ) → PlacesWithin (length d) p → absentField (laidBy p d)
+    ≡ (absentButThere (eqb (p .mask % 2) 1) (p .«file_to» - p .«file_from»)
     || absentButThere (eqb (p .mask / 2 % 2) 1) (p .line)
-    || absentButThere (eqb (p .mask / 4 % 2) 1) (p .«module_to» - p .«module_from»))
-unfolding badlyMarked hasFile hasLine hasModule laidBy
-marked p d w =
+    || absentButThere (eqb (p .mask / 4 % 2) 1) (p .«module_to» - p .«module_from»)
+    || absentButThere (eqb (p .mask / 8 % 2) 1) (p .«serial_to» - p .«serial_from»))
+unfolding absentField hasFile hasLine hasModule hasSerial laidBy
+absent-told p d w =
     rw (
       part-length d (p .«file_from») (p .«file_to») (w .file .0) (w .file .1),
       part-length d (p .«module_from») (p .«module_to») (w .modulePath .0) (w .modulePath .1),
+      part-length d (p .«serial_from») (p .«serial_to») (w .serial .0) (w .serial .1),
     )
 
-pub refused-marks : (l : Laid) → badlyMarked l ≡ true → recordRefusal l ≡ some Refusal.NotARecord
-unfolding recordRefusal
-refused-marks l e = rw (e, recordRefusal)
+module _ (form : Form) (p : Places) (d : List ℕ) where
+  pub by-numbers : badNumbers (mostMask form) (p .source) (p .level) (p .mask) ≡ true → true ≡ badlyMarked form (laidBy p d)
+  unfolding badlyMarked laidBy
+  by-numbers e = rw e
 
-pub past-marks : (l : Laid) → badlyMarked l ≡ false → recordRefusal l ≡ fieldsRefusal l
-unfolding recordRefusal
-past-marks l e = rw (e, recordRefusal)
+  pub by-fields : badNumbers (mostMask form) (p .source) (p .level) (p .mask) ≡ false → absentField (laidBy p d) ≡ badlyMarked form (laidBy p d)
+  unfolding badlyMarked laidBy
+  by-fields e = rw e
+
+module _ (form : Form) (l : Laid) where
+  pub refused-marks : badlyMarked form l ≡ true → recordRefusal form l ≡ some Refusal.NotARecord
+  unfolding recordRefusal
+  refused-marks e = rw (e, recordRefusal)
+
+  pub past-marks : badlyMarked form l ≡ false → recordRefusal form l ≡ fieldsRefusal l
+  unfolding recordRefusal
+  past-marks e = rw (e, recordRefusal)
 
 -- ---- refusals 11 and 12 of one text
 
-module _ (t : List ℕ) where
-  pub too-long : 4096 < length t → fieldRefusal t ≡ some Refusal.FieldTooLong
+module _ (most : ℕ) (t : List ℕ) where
+  pub too-long : most < length t → fieldRefusal most t ≡ some Refusal.FieldTooLong
   unfolding fieldRefusal
-  too-long h = rw (lt-leb (length t) 4096 h, fieldRefusal)
+  too-long h = rw (lt-leb (length t) most h, fieldRefusal)
 
-  module _ (h : length t ≤ 4096) where
-    pub accepted : valid t ≡ true → fieldRefusal t ≡ none
+  module _ (h : length t ≤ most) where
+    pub accepted : valid t ≡ true → fieldRefusal most t ≡ none
     unfolding fieldRefusal
-    accepted e = rw (le-leb (length t) 4096 h, e, fieldRefusal)
+    accepted e = rw (le-leb (length t) most h, e, fieldRefusal)
 
-    pub not-utf8 : valid t ≡ false → fieldRefusal t ≡ some Refusal.FieldNotUtf8
+    pub not-utf8 : valid t ≡ false → fieldRefusal most t ≡ some Refusal.FieldNotUtf8
     unfolding fieldRefusal
-    not-utf8 e = rw (le-leb (length t) 4096 h, e, fieldRefusal)
+    not-utf8 e = rw (le-leb (length t) most h, e, fieldRefusal)
 
 -- ---- the texts in turn
 
@@ -111,20 +123,25 @@ or-on none k e = refl
 or-on (some x) k e = cc
 
 module _ (l : Laid) where
-  pub at-file : (r : Refusal) → fieldRefusal (l .file) ≡ some r → fieldsRefusal l ≡ fieldRefusal (l .file)
+  pub at-file : (r : Refusal) → fieldRefusal mostField (l .file) ≡ some r → fieldsRefusal l ≡ fieldRefusal mostField (l .file)
   unfolding fieldsRefusal
   at-file r e = or-stop _ _ r e
 
-  module _ (f : fieldRefusal (l .file) ≡ none) where
-    pub at-module : (r : Refusal) → fieldRefusal (l .modulePath) ≡ some r → fieldsRefusal l ≡ fieldRefusal (l .modulePath)
+  module _ (f : fieldRefusal mostField (l .file) ≡ none) where
+    pub at-module : (r : Refusal) → fieldRefusal mostField (l .modulePath) ≡ some r → fieldsRefusal l ≡ fieldRefusal mostField (l .modulePath)
     unfolding fieldsRefusal
     at-module r e = or-on _ _ f ∙ or-stop _ _ r e
 
-    module _ (m : fieldRefusal (l .modulePath) ≡ none) where
-      pub at-timestamp : (r : Refusal) → fieldRefusal (l .timestamp) ≡ some r → fieldsRefusal l ≡ fieldRefusal (l .timestamp)
+    module _ (m : fieldRefusal mostField (l .modulePath) ≡ none) where
+      pub at-timestamp : (r : Refusal) → fieldRefusal mostField (l .timestamp) ≡ some r → fieldsRefusal l ≡ fieldRefusal mostField (l .timestamp)
       unfolding fieldsRefusal
       at-timestamp r e = or-on _ _ f ∙ or-on _ _ m ∙ or-stop _ _ r e
 
-      pub at-message : fieldRefusal (l .timestamp) ≡ none → fieldsRefusal l ≡ fieldRefusal (l .message)
-      unfolding fieldsRefusal
-      at-message t = or-on _ _ f ∙ or-on _ _ m ∙ or-on _ _ t
+      module _ (t : fieldRefusal mostField (l .timestamp) ≡ none) where
+        pub at-message : (r : Refusal) → fieldRefusal mostField (l .message) ≡ some r → fieldsRefusal l ≡ fieldRefusal mostField (l .message)
+        unfolding fieldsRefusal
+        at-message r e = or-on _ _ f ∙ or-on _ _ m ∙ or-on _ _ t ∙ or-stop _ _ r e
+
+        pub at-serial : fieldRefusal mostField (l .message) ≡ none → fieldsRefusal l ≡ fieldRefusal mostSerial (l .serial)
+        unfolding fieldsRefusal
+        at-serial e = or-on _ _ f ∙ or-on _ _ m ∙ or-on _ _ t ∙ or-on _ _ e

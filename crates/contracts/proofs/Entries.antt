@@ -27,7 +27,7 @@ pack-refusal-settled _ _ _ _ _ _ p q = (same p q, refl)
 -- ---- answer
 
 record-line-settled : Settled 4 answer.record_line.Kinds.ps answer.record_line.Kinds.r answer.record_line.Reads.Post
-record-line-settled _ _ _ _ _ _ p q = (same (p .0) (q .0), past (past (past (past (past (here (same (p .1) (q .1))))))))
+record-line-settled _ _ _ _ _ _ p q = (same (p .0) (q .0), past (past (past (past (past (past (here (same (p .1) (q .1)))))))))
 
 measure-record-settled : Settled 3 answer.measure_record.Kinds.ps answer.measure_record.Kinds.r answer.measure_record.Reads.Post
 measure-record-settled _ _ _ _ _ _ p q = (same p q, refl)
@@ -70,7 +70,7 @@ outcome-length-settled : Settled 3 outcomes.outcome_length.Kinds.ps outcomes.out
 outcome-length-settled _ _ _ _ _ _ p q = (same (p .0) (q .0), refl)
 
 put-outcome-settled : Settled 4 outcomes.put_outcome.Kinds.ps outcomes.put_outcome.Kinds.r outcomes.put_outcome.Reads.Post
-put-outcome-settled _ _ _ _ _ _ p q = (same (p .0) (q .0), past (past (past (past (past (here (same (p .1) (q .1))))))))
+put-outcome-settled _ _ _ _ _ _ p q = (same (p .0) (q .0), past (past (past (past (past (past (here (same (p .1) (q .1)))))))))
 
 put-refusal-settled : Settled 1 outcomes.refusing.put_refusal.Kinds.ps outcomes.refusing.put_refusal.Kinds.r outcomes.refusing.put_refusal.Reads.Post
 put-refusal-settled _ _ _ _ _ _ p q = (same (p .0) (q .0), past (here (same (p .1) (q .1))))

@@ -29,6 +29,9 @@ settings-of-settled _ _ _ _ _ _ p q = (same p q, refl)
 edition-of-settled : Settled 0 settings.edition_of.Kinds.ps settings.edition_of.Kinds.r settings.edition_of.Reads.Post
 edition-of-settled _ _ _ _ _ _ p q = (same p q, refl)
 
+form-of-settled : Settled 0 settings.form_of.Kinds.ps settings.form_of.Kinds.r settings.form_of.Reads.Post
+form-of-settled _ _ _ _ _ _ p q = (same p q, refl)
+
 is-known-settled : Settled 0 settings.is_known.Kinds.ps settings.is_known.Kinds.r settings.is_known.Reads.Post
 is-known-settled _ _ _ _ _ _ p q = (same p q, refl)
 
@@ -54,6 +57,9 @@ has-line-settled _ _ _ _ _ _ p q = (same p q, refl)
 
 has-module-settled : Settled 0 records.marks.has_module.Kinds.ps records.marks.has_module.Kinds.r records.marks.has_module.Reads.Post
 has-module-settled _ _ _ _ _ _ p q = (same p q, refl)
+
+has-serial-settled : Settled 0 records.marks.has_serial.Kinds.ps records.marks.has_serial.Kinds.r records.marks.has_serial.Reads.Post
+has-serial-settled _ _ _ _ _ _ p q = (same p q, refl)
 
 u16-at-settled : Settled 1 records.numbers.u16_at.Kinds.ps records.numbers.u16_at.Kinds.r records.numbers.u16_at.Reads.Post
 u16-at-settled _ _ _ _ _ _ p q = (same (p .0) (q .0), refl)

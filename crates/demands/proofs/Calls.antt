@@ -15,12 +15,12 @@ use Rattle.refusals.specs.declared.Refusal.the-variants.{TemplateTooLong, Templ
 use Rattle.refusals.specs.Numbers.{number}
 use Rattle.segments.specs.Segments.{LogSegments}
 use Rattle.template.specs.Template.{Template, read, refusal, readBy}
-use Rattle.record.specs.Layout.{rightSize, laidOut}
+use Rattle.record.specs.Layout.{rightSize}
 use Rattle.checks.specs.Checks.{recordRefusal}
-use Rattle.settings.specs.Bits.{isKnown, settingsOf, editionOf}
+use Rattle.settings.specs.Bits.{isKnown, settingsOf, editionOf, formOf}
 use Rattle.answer.specs.Answers.{Outcome, line, refused, inRoom, passed, recordOutcome, byTemplate, outcome, isCall, callOutcome, lineEntry}
 use Rattle.answer.proofs.Answering.{unknown-bit, wrong-size, is-call, read-outcome, unread-outcome, passed-outcome, refused-outcome}
-use Rattle.demands.specs.Conditions.{TemplateLong, TemplateBroken, Stops, Wordless, Accepts, Drops, BadlyMarked, RecordLong, RecordBroken, NoCall, IsCall, AcceptedCall, callLine}
+use Rattle.demands.specs.Conditions.{TemplateLong, TemplateBroken, Stops, Wordless, Accepts, Drops, BadlyMarked, RecordLong, RecordBroken, NoCall, IsCall, laidIn, AcceptedCall, callLine}
 use Rattle.demands.specs.Demand1.{numberOf, CallDemand1}
 use Rattle.demands.proofs.Numbers.{Alone, refused-of, line-of, too-long-of, dropped-of, dropped-told, never-ten, length-told, lengthOf, returns, room-line, room-none, room-length, numbered}
 use Rattle.demands.proofs.Templates.{RefusedWhen, accepted, refused-when, only-refused}
@@ -47,10 +47,10 @@ module _ (t : List ℕ) (settings : ℕ) (d : List ℕ) (room : ℕ) where
   CallRefusedWhen TooWide = IsCall settings d × Stops t TooWide
   CallRefusedWhen TooManyF = IsCall settings d × Stops t TooManyF
   CallRefusedWhen HalfEscape = IsCall settings d × Stops t HalfEscape
-  CallRefusedWhen FieldTooLong = IsCall settings d × IsRead × RecordLong (laidOut d)
-  CallRefusedWhen FieldNotUtf8 = IsCall settings d × IsRead × RecordBroken (laidOut d)
+  CallRefusedWhen FieldTooLong = IsCall settings d × IsRead × RecordLong (formOf settings) (laidIn settings d)
+  CallRefusedWhen FieldNotUtf8 = IsCall settings d × IsRead × RecordBroken (formOf settings) (laidIn settings d)
   CallRefusedWhen (LineTooLong n) = HasLine
-  CallRefusedWhen NotARecord = IsCall settings d × IsRead × BadlyMarked (laidOut d)
+  CallRefusedWhen NotARecord = IsCall settings d × IsRead × BadlyMarked (formOf settings) (laidIn settings d)
   CallRefusedWhen NotASheet = NoCall settings d
   CallRefusedWhen (Dropped p) = IsCall settings d × Drops (editionOf settings) t p
 
@@ -77,7 +77,7 @@ module _ (t : List ℕ) (settings : ℕ) (d : List ℕ) (room : ℕ) where
   by-template c NotASheet w = absurd w
   by-template c (Dropped p) w = (c, w)
 
-  by-record : IsCall settings d → IsRead → (r : Refusal) → RecordRefusedWhen (laidOut d) r → CallRefusedWhen r
+  by-record : IsCall settings d → IsRead → (r : Refusal) → RecordRefusedWhen (formOf settings) (laidIn settings d) r → CallRefusedWhen r
   by-record c a FieldTooLong w = (c, a, w)
   by-record c a FieldNotUtf8 w = (c, a, w)
   by-record c a NotARecord w = (c, a, w)
@@ -102,57 +102,57 @@ module _ (t : List ℕ) (settings : ℕ) (d : List ℕ) (room : ℕ) where
       by true = a
       by false = a
 
-  checked : IsCall settings d → (s : LogSegments) → readBy (editionOf settings) t ≡ read s → (m : Maybe Refusal) → recordRefusal (laidOut d) ≡ m
-      → CallWhen (passed (settingsOf settings) t s (laidOut d) room m)
+  checked : IsCall settings d → (s : LogSegments) → readBy (editionOf settings) t ≡ read s → (m : Maybe Refusal) → recordRefusal (formOf settings) (laidIn settings d) ≡ m
+      → CallWhen (passed (settingsOf settings) t s (laidIn settings d) room m)
   unfolding passed
-  checked c s e none k = in-room (s, record { call = c; template = e; passes = passes-when (laidOut d) .0 k }) _
-  checked c s e (some r) k = by-record c (s, accepted (editionOf settings) t s .0 e) r (records.refused-when (laidOut d) r k)
+  checked c s e none k = in-room (s, record { call = c; template = e; passes = passes-when (formOf settings) (laidIn settings d) .0 k }) _
+  checked c s e (some r) k = by-record c (s, accepted (editionOf settings) t s .0 e) r (records.refused-when (formOf settings) (laidIn settings d) r k)
 
-  tried : IsCall settings d → (x : Template) → readBy (editionOf settings) t ≡ x → CallWhen (byTemplate (settingsOf settings) t (laidOut d) room x)
+  tried : IsCall settings d → (x : Template) → readBy (editionOf settings) t ≡ x → CallWhen (byTemplate (formOf settings) (settingsOf settings) t (laidIn settings d) room x)
   unfolding byTemplate recordOutcome
-  tried c (read s) e = checked c s e (recordRefusal (laidOut d)) refl
+  tried c (read s) e = checked c s e (recordRefusal (formOf settings) (laidIn settings d)) refl
   tried c (refusal r) e = by-template c r (refused-when (editionOf settings) t r e)
 
-  no-call : (b : Bool) → ltb settings 8 ≡ b → (b && rightSize d) ≡ false → NoCall settings d
+  no-call : (b : Bool) → ltb settings 16 ≡ b → (b && rightSize (formOf settings) d) ≡ false → NoCall settings d
   no-call true e k = inr k
-  no-call false e k = inl (ltb-false settings 8 e)
+  no-call false e k = inl (ltb-false settings 16 e)
 
   call-when : CallWhen (callOutcome settings t d room)
   unfolding callOutcome isCall isKnown outcome
   call-when = by (isCall settings d) refl
     where
       by : (b : Bool) → isCall settings d ≡ b
-          → CallWhen (elim b [ true ↦ outcome (editionOf settings) (settingsOf settings) t (laidOut d) room | false ↦ refused NotASheet ])
-      by true e = let c = both-true (ltb settings 8) (rightSize d) e in tried (ltb-true settings 8 (c .0), c .1) (readBy (editionOf settings) t) refl
-      by false e = no-call (ltb settings 8) refl e
+          → CallWhen (elim b [ true ↦ outcome (formOf settings) (editionOf settings) (settingsOf settings) t (laidIn settings d) room | false ↦ refused NotASheet ])
+      by true e = let c = both-true (ltb settings 16) (rightSize (formOf settings) d) e in tried (ltb-true settings 16 (c .0), c .1) (readBy (editionOf settings) t) refl
+      by false e = no-call (ltb settings 16) refl e
 
   -- ---- and nothing else does
 
-  known : settings < 8 → isKnown settings ≡ true
+  known : settings < 16 → isKnown settings ≡ true
   unfolding isKnown
-  known h = lt-ltb settings 8 h
+  known h = lt-ltb settings 16 h
 
-  unknown : 8 ≤ settings → isKnown settings ≡ false
+  unknown : 16 ≤ settings → isKnown settings ≡ false
   unfolding isKnown
-  unknown h = le-ltb settings 8 h
+  unknown h = le-ltb settings 16 h
 
-  called : IsCall settings d → callOutcome settings t d room ≡ outcome (editionOf settings) (settingsOf settings) t (laidOut d) room
+  called : IsCall settings d → callOutcome settings t d room ≡ outcome (formOf settings) (editionOf settings) (settingsOf settings) t (laidIn settings d) room
   called c = sym (is-call settings t d room (known (c .0)) (c .1))
 
   pub accepted-call : (s : LogSegments) → AcceptedCall t settings d s → callOutcome settings t d room ≡ inRoom room (callLine t settings d s)
   accepted-call s a =
       called (a .call)
-      ∙ sym (read-outcome (editionOf settings) (settingsOf settings) t (laidOut d) room s (a .template))
-      ∙ passed-outcome (settingsOf settings) t s (laidOut d) room (passes-when (laidOut d) .1 (a .passes))
+      ∙ sym (read-outcome (formOf settings) (editionOf settings) (settingsOf settings) t (laidIn settings d) room s (a .template))
+      ∙ passed-outcome (formOf settings) (settingsOf settings) t s (laidIn settings d) room (passes-when (formOf settings) (laidIn settings d) .1 (a .passes))
 
   template-refused : (r : Refusal) → IsCall settings d → RefusedWhen (editionOf settings) t r → callOutcome settings t d room ≡ refused r
-  template-refused r c w = called c ∙ sym (unread-outcome (editionOf settings) (settingsOf settings) t (laidOut d) room r (only-refused (editionOf settings) t r w))
+  template-refused r c w = called c ∙ sym (unread-outcome (formOf settings) (editionOf settings) (settingsOf settings) t (laidIn settings d) room r (only-refused (editionOf settings) t r w))
 
-  record-refused : (r : Refusal) → IsCall settings d → IsRead → RecordRefusedWhen (laidOut d) r → callOutcome settings t d room ≡ refused r
+  record-refused : (r : Refusal) → IsCall settings d → IsRead → RecordRefusedWhen (formOf settings) (laidIn settings d) r → callOutcome settings t d room ≡ refused r
   record-refused r c a w =
       called c
-      ∙ sym (read-outcome (editionOf settings) (settingsOf settings) t (laidOut d) room (a .0) (accepted (editionOf settings) t (a .0) .1 (a .1)))
-      ∙ refused-outcome (settingsOf settings) t (a .0) (laidOut d) room r (records.only-refused (laidOut d) r w)
+      ∙ sym (read-outcome (formOf settings) (editionOf settings) (settingsOf settings) t (laidIn settings d) room (a .0) (accepted (editionOf settings) t (a .0) .1 (a .1)))
+      ∙ refused-outcome (formOf settings) (settingsOf settings) t (a .0) (laidIn settings d) room r (records.only-refused (formOf settings) (laidIn settings d) r w)
 
   not-called : NoCall settings d → callOutcome settings t d room ≡ refused NotASheet
   not-called (inl h) = sym (unknown-bit settings t d room (unknown h))

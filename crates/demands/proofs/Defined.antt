@@ -13,8 +13,8 @@ use Rattle.buffer.proofs.Writing.{put-take, put-drop}
 use Rattle.segments.specs.Segments.{LogSegments}
 use Rattle.template.specs.Template.{read, readBy}
 use Rattle.record.specs.Layout.{rightSize, laidOut}
-use Rattle.settings.specs.Bits.{isKnown, settingsOf, editionOf}
-use Rattle.sheet.specs.Sheets.{Sheet, bodyCount, contentsEnd, bodyBytes, bodies, isHead, areRecords, areBodies, isSheet, allLaidOut, headed, held, sheetOf}
+use Rattle.settings.specs.Bits.{isKnown, settingsOf, editionOf, formOf}
+use Rattle.sheet.specs.Sheets.{Sheet, bodyCount, contentsEnd, bodyBytes, bodies, isHead, formIn, areRecords, areBodies, isSheet, allLaidOut, headed, held, sheetOf}
 use Rattle.answer.specs.Answers.{Outcome, line, inRoom, recordOutcome, bufferAfter, callOutcome, Meets, lineEntry}
 use Rattle.answer.proofs.Answering.{is-call, read-outcome}
 use Rattle.outcomes.specs.Program.{outcomeLine, recordLines, sheetText, maybeSheetText, sessionText, fitting, sessionOutcome, sessionEntry}
@@ -61,19 +61,19 @@ call-demand2 t settings d lent =
 
 -- what is laid out in a sheet
 laid : ℕ → List ℕ → List (List ℕ) → Sheet
-laid settings t records = record { settings = settings; template = t; records = allLaidOut records }
+laid settings t records = record { settings = settings; template = t; records = allLaidOut (formOf settings) records }
 
 module _ (settings : ℕ) (t : List ℕ) (s : LogSegments) (known : isKnown settings ≡ true) (e : readBy (editionOf settings) t ≡ read s) where
-  one-line : (d : List ℕ) → rightSize d ≡ true → recordOutcome (settingsOf settings) t s (laidOut d) 65536 ≡ callOutcome settings t d 65536
-  one-line d h = read-outcome (editionOf settings) (settingsOf settings) t (laidOut d) 65536 s e ∙ is-call settings t d 65536 known h
+  one-line : (d : List ℕ) → rightSize (formOf settings) d ≡ true → recordOutcome (formOf settings) (settingsOf settings) t s (laidOut (formOf settings) d) 65536 ≡ callOutcome settings t d 65536
+  one-line d h = read-outcome (formOf settings) (editionOf settings) (settingsOf settings) t (laidOut (formOf settings) d) 65536 s e ∙ is-call settings t d 65536 known h
 
-  lines : (h : Sheet) → h .settings ≡ settings → h .template ≡ t → (records : List (List ℕ)) → areRecords records ≡ true
-      → recordLines h s (allLaidOut records) ≡ callLines settings t records
+  lines : (h : Sheet) → h .settings ≡ settings → h .template ≡ t → (records : List (List ℕ)) → areRecords (formOf settings) records ≡ true
+      → recordLines h s (allLaidOut (formOf settings) records) ≡ callLines settings t records
   unfolding recordLines callLines allLaidOut areRecords
   lines h a b [] k = refl
   lines h a b (d ∷ rest) k =
-      let c = both-true (rightSize d) (areRecords rest) k in
-      λ i. outcomeLine (((λ j. recordOutcome (settingsOf (a j)) (b j) s (laidOut d) 65536) ∙ one-line d (c .0)) i) ++ lines h a b rest (c .1) i
+      let c = both-true (rightSize (formOf settings) d) (areRecords (formOf settings) rest) k in
+      λ i. outcomeLine (((λ j. recordOutcome (formOf (a j)) (settingsOf (a j)) (b j) s (laidOut (formOf settings) d) 65536) ∙ one-line d (c .0)) i) ++ lines h a b rest (c .1) i
 
 -- the last test of a sheet
 sheet-bodies : (d : List ℕ) → isSheet d ≡ true → areBodies (bodies d) ≡ true
@@ -96,9 +96,9 @@ module _ (d : List ℕ) where
   held-is settings t records e = ap held e
 
   defined : (settings : ℕ) (t : List ℕ) (records : List (List ℕ)) → SheetBodies d settings t records → sessionText d ≡ line (callLines settings t records)
-  unfolding sessionText maybeSheetText sheetText laid areBodies isHead
+  unfolding sessionText maybeSheetText sheetText laid areBodies isHead formIn
   defined settings t records w =
-      let k = both-true (isKnown settings) (areRecords records) (sym (ap areBodies (w .laid)) ∙ sheet-bodies d (w .sheet)) in
+      let k = both-true (isKnown settings) (areRecords (formOf settings) records) (sym (ap areBodies (w .laid)) ∙ sheet-bodies d (w .sheet)) in
       ap maybeSheetText (sheet-is (w .sheet) ∙ ap some (held-is settings t records (w .laid)))
       ∙ ap (sheetText (laid settings t records)) (w .template)
       ∙ ap line (lines settings t (w .segments) (k .0) (w .template) (laid settings t records) refl refl records (k .1))

@@ -1,5 +1,6 @@
 pub mod Calls
 pub mod Defined
+pub mod Heads
 pub mod Holds
 pub mod Letters
 pub mod Firsts

@@ -10,7 +10,7 @@ use borrow.Author.Tests.{ltb-true}
 use Rattle.buffer.specs.Bytes.{bytes, same}
 use Rattle.buffer.specs.Table.{Maybe, none, some}
 use Rattle.words.specs.declared.LogMetadata.{LogMetadata}
-use Rattle.words.specs.declared.LogMetadata.the-variants.{CrateName, FileName, FilePath, LineNumber, Log, LogLevel, ModulePath, Timestamp}
+use Rattle.words.specs.declared.LogMetadata.the-variants.{CrateName, FileName, FilePath, LineNumber, Log, LogLevel, ModulePath, Timestamp, HeadSerial}
 use Rattle.words.specs.declared.LogFormat.{LogFormat}
 use Rattle.colour.specs.Sequences.{esc}
 use Rattle.colour.specs.Texts.{Free, Quiet, Quiets}
@@ -26,7 +26,7 @@ use Rattle.record.specs.declared.Name.the-variants.{Error, Warn, Info, Debug, T
 use Rattle.record.specs.Records.{Given, absent, given, Record}
 use Rattle.record.specs.Levels.{levelName, nameOf}
 use Rattle.paths.specs.Paths.{before-first, pieces, isDropped, kept, root, startsWithDot, leadingDot, components, lastOf, slashed, joinedBySlash, fileName, after-byte, beforeColons}
-use Rattle.fields.specs.Texts.{noCrate, noFile, noModule, noTime, orPlaceholder, there, digits, decimalText, notEmpty, timeOf, wording}
+use Rattle.fields.specs.Texts.{noCrate, noFile, noModule, noTime, noHead, orPlaceholder, there, digits, decimalText, notEmpty, timeOf, wording}
 use Rattle.fields.specs.Lines.{inFormat, messageFrom, specifierShown, segmentShown, segmentsShown, recordShown}
 use Rattle.demands.specs.Lines.{FreeGiven, FreeRecord, FreeSegment, FreeSegments}
 
@@ -184,6 +184,7 @@ free-wording r f Log = f .message
 free-wording r f LogLevel = free-level (r .level)
 free-wording r f ModulePath = free-or noModule (free-by-test noModule refl) (there some (r .modulePath)) (free-there some (λ t h. h) (r .modulePath) (f .modulePath))
 free-wording r f Timestamp = free-or noTime (free-by-test noTime refl) (timeOf (r .source) (r .timestamp)) (free-time (r .source) (r .timestamp) (f .timestamp))
+free-wording r f HeadSerial = free-or noHead (free-by-test noHead refl) (there some (r .serial)) (free-there some (λ t h. h) (r .serial) (f .serial))
 
 -- ---- whatever is shown
 
@@ -202,6 +203,7 @@ quiet-specifier r f Log a = quiet-message (r .source) r f a
 quiet-specifier r f LogLevel a = free-wording r f LogLevel
 quiet-specifier r f ModulePath a = free-wording r f ModulePath
 quiet-specifier r f Timestamp a = free-wording r f Timestamp
+quiet-specifier r f HeadSerial a = free-wording r f HeadSerial
 
 mutual
   unfolding segmentShown

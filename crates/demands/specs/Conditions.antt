@@ -13,10 +13,11 @@ use Rattle.segments.specs.Segments.{LogSegments, isLog, namedAmong}
 use Rattle.unused.specs.Unused.{Unused, placeOf, unusedIn}
 use Rattle.template.specs.declared.Edition.{Edition}
 use Rattle.template.specs.Template.{read, reading, readBy}
+use Rattle.record.specs.declared.Form.{Form}
 use Rattle.record.specs.Layout.{Laid, rightSize, laidOut}
-use Rattle.record.specs.Contents.{hasFile, hasLine, hasModule, recordOf}
+use Rattle.record.specs.Contents.{hasFile, hasLine, hasModule, hasSerial, recordOf}
 use Rattle.fields.specs.Lines.{lineOf}
-use Rattle.settings.specs.Bits.{settingsOf, editionOf}
+use Rattle.settings.specs.Bits.{settingsOf, editionOf, formOf}
 
 -- ---- a template
 
@@ -76,71 +77,105 @@ Drops Edition.Strict t p = ((s : LogSegments) × FirstAccepts t s) × (OneAt p (
 
 -- ---- a record
 
--- 14: "source over 1, level over 5, host without level, presence mask over 7, or an absent field with a non-zero length or line"
-abbrev pub BadlyMarked : Laid → Type 0
-BadlyMarked d =
+-- "14 now starts at mask 16, and in old sheets still at 8" (document 02, E7)
+abbrev pub firstBadMask : Form → ℕ
+firstBadMask Form.Old = 8
+firstBadMask Form.New = 16
+
+-- 14: "source over 1, level over 5, host without level, presence mask over 7 ..", which is over 15 in the new form
+abbrev pub BadNumbers : Form → Laid → Type 0
+BadNumbers form d =
     (1 < d .source)
     ⊎ (5 < d .level)
     ⊎ ((d .source ≡ 1) × (d .level ≡ 0))
-    ⊎ (7 < d .mask)
-    ⊎ ((hasFile d ≡ false) × (length (d .file) ≢ 0))
+    ⊎ (firstBadMask form ≤ d .mask)
+
+-- ".. or an absent field with a non-zero length or line"
+abbrev pub AbsentField : Laid → Type 0
+AbsentField d =
+    ((hasFile d ≡ false) × (length (d .file) ≢ 0))
     ⊎ ((hasLine d ≡ false) × (d .line ≢ 0))
     ⊎ ((hasModule d ≡ false) × (length (d .modulePath) ≢ 0))
+    ⊎ ((hasSerial d ≡ false) × (length (d .serial) ≢ 0))
 
--- 11: "a field over 4,096 bytes"
-abbrev pub FieldLong : List ℕ → Type 0
-FieldLong x = 4096 < length x
+-- one of the two
+abbrev pub BadlyMarked : Form → Laid → Type 0
+BadlyMarked form d = BadNumbers form d ⊎ AbsentField d
+
+-- a text of a record, and the bytes that it may have at most
+pub record Field : Type 0 where
+  pub text : List ℕ
+  pub most : ℕ
+
+infix 70 _of-at-most_
+-- a field as it is written
+abbrev pub _of-at-most_ : List ℕ → ℕ → Field
+t of-at-most n = record { text = t; most = n }
+
+-- 11: "a field over 4,096 bytes"; "11 for the serial starts at 33 bytes"
+abbrev pub FieldLong : Field → Type 0
+FieldLong x = x .most < length (x .text)
 
 -- 12: "a field not UTF-8", and 11 comes first
-abbrev pub FieldBroken : List ℕ → Type 0
-FieldBroken x = (length x ≤ 4096) × (valid x ≡ false)
+abbrev pub FieldBroken : Field → Type 0
+FieldBroken x = (length (x .text) ≤ x .most) × (valid (x .text) ≡ false)
 
 -- neither
-abbrev pub FieldPasses : List ℕ → Type 0
-FieldPasses x = (length x ≤ 4096) × (valid x ≡ true)
+abbrev pub FieldPasses : Field → Type 0
+FieldPasses x = (length (x .text) ≤ x .most) × (valid (x .text) ≡ true)
 
--- "for file, module, timestamp, message in turn"
-abbrev pub fieldsOf : Laid → List (List ℕ)
-fieldsOf d = d .file ∷ d .modulePath ∷ d .timestamp ∷ d .message ∷ []
+-- "for file, module, timestamp, message in turn"; the serial's "11 and 12 come after the message's"
+abbrev pub fieldsOf : Laid → List Field
+fieldsOf d =
+    d .file of-at-most 4096
+    ∷ d .modulePath of-at-most 4096
+    ∷ d .timestamp of-at-most 4096
+    ∷ d .message of-at-most 4096
+    ∷ d .serial of-at-most 32
+    ∷ []
 
 -- P holds of one of some fields, and each before it passes
-abbrev pub First : (List ℕ → Type 0) → List (List ℕ) → Type 0
+abbrev pub First : (Field → Type 0) → List Field → Type 0
 First P [] = ⊥
 First P (x ∷ rest) = P x ⊎ (FieldPasses x × First P rest)
 
 -- each of some fields passes
-abbrev pub AllPass : List (List ℕ) → Type 0
+abbrev pub AllPass : List Field → Type 0
 AllPass [] = Unit {0}
 AllPass (x ∷ rest) = FieldPasses x × AllPass rest
 
 -- a record that is refused with 11, "Order: .. 14; then .. 11 before 12"
-abbrev pub RecordLong : Laid → Type 0
-RecordLong d = (BadlyMarked d → ⊥) × First FieldLong (fieldsOf d)
+abbrev pub RecordLong : Form → Laid → Type 0
+RecordLong form d = (BadlyMarked form d → ⊥) × First FieldLong (fieldsOf d)
 
 -- one that is refused with 12
-abbrev pub RecordBroken : Laid → Type 0
-RecordBroken d = (BadlyMarked d → ⊥) × First FieldBroken (fieldsOf d)
+abbrev pub RecordBroken : Form → Laid → Type 0
+RecordBroken form d = (BadlyMarked form d → ⊥) × First FieldBroken (fieldsOf d)
 
 -- one that is accepted
-abbrev pub RecordPasses : Laid → Type 0
-RecordPasses d = (BadlyMarked d → ⊥) × AllPass (fieldsOf d)
+abbrev pub RecordPasses : Form → Laid → Type 0
+RecordPasses form d = (BadlyMarked form d → ⊥) × AllPass (fieldsOf d)
 
 -- ---- a call
 
 -- "an unknown settings bit or a record of the wrong size is 15"
 abbrev pub NoCall : ℕ → List ℕ → Type 0
-NoCall settings d = (8 ≤ settings) ⊎ (rightSize d ≡ false)
+NoCall settings d = (16 ≤ settings) ⊎ (rightSize (formOf settings) d ≡ false)
 
 -- neither
 abbrev pub IsCall : ℕ → List ℕ → Type 0
-IsCall settings d = (settings < 8) × (rightSize d ≡ true)
+IsCall settings d = (settings < 16) × (rightSize (formOf settings) d ≡ true)
+
+-- what the bytes of a call lay out, in the form that its settings say
+abbrev pub laidIn : ℕ → List ℕ → Laid
+laidIn settings d = laidOut (formOf settings) d
 
 -- a call whose template is read as s, in the edition that its settings ask for, and whose record passes
 pub record AcceptedCall (t : List ℕ) (settings : ℕ) (d : List ℕ) (s : LogSegments) : Type 0 where
   pub call : IsCall settings d
   pub template : readBy (editionOf settings) t ≡ read s
-  pub passes : RecordPasses (laidOut d)
+  pub passes : RecordPasses (formOf settings) (laidIn settings d)
 
 -- and its line
 abbrev pub callLine : List ℕ → ℕ → List ℕ → LogSegments → List ℕ
-callLine t settings d s = lineOf (settingsOf settings) t s (recordOf (laidOut d))
+callLine t settings d s = lineOf (settingsOf settings) t s (recordOf (laidIn settings d))

@@ -14,8 +14,9 @@ use Rattle.refusals.specs.Numbers.{number}
 use Rattle.segments.specs.Segments.{LogSegments}
 use Rattle.template.specs.declared.Edition.{Edition}
 use Rattle.template.specs.Template.{read, readBy, namesTimestamp}
-use Rattle.settings.specs.Bits.{editionOf}
-use Rattle.record.specs.Layout.{Laid, laidOut}
+use Rattle.settings.specs.Bits.{editionOf, formOf}
+use Rattle.record.specs.declared.Form.{Form}
+use Rattle.record.specs.Layout.{Laid}
 use Rattle.checks.specs.Checks.{recordRefusal}
 use Rattle.builtin.specs.declared.Style.{Style}
 use Rattle.builtin.specs.Builtins.{builtinText}
@@ -23,7 +24,7 @@ use Rattle.checking.specs.Templates.{checkOf, timestampOf, checkEntry, timestam
 use Rattle.sheet.specs.Sheets.{Sheet, bodyCount, contentsEnd, bodyBytes, bodies, areBodies, sheetOf}
 use Rattle.answer.specs.Answers.{Outcome, line, refused, inRoom, Meets, lineEntry}
 use Rattle.outcomes.specs.Program.{recordLines, sessionEntry}
-use Rattle.demands.specs.Conditions.{TemplateLong, TemplateBroken, Stops, Wordless, Accepts, Drops, BadlyMarked, RecordLong, RecordBroken, RecordPasses, NoCall, IsCall, AcceptedCall, callLine}
+use Rattle.demands.specs.Conditions.{TemplateLong, TemplateBroken, Stops, Wordless, Accepts, Drops, BadlyMarked, RecordLong, RecordBroken, RecordPasses, NoCall, IsCall, laidIn, AcceptedCall, callLine}
 
 -- ---- what an entry with a lent buffer returns and leaves
 
@@ -88,25 +89,26 @@ pub record TimestampDemand1 (edition : Edition) (t : List ℕ) : Type 0 where
 
 -- the two calls about a template alone, with a settings byte: an unknown bit is 15, "first"; else the edition asked for decides
 pub record CheckDemand1 (t : List ℕ) (settings : ℕ) : Type 0 where
-  pub is-15 : checkEntry t settings ≡ 15 ↔ (8 ≤ settings)
-  pub checked : settings < 8 → checkEntry t settings ≡ templateNumber (editionOf settings) t
-  pub timestamp-15 : timestampEntry t settings ≡ 15 ↔ (8 ≤ settings)
-  pub asked : settings < 8 → timestampEntry t settings ≡ timestampOf (readBy (editionOf settings) t)
+  pub is-15 : checkEntry t settings ≡ 15 ↔ (16 ≤ settings)
+  pub checked : settings < 16 → checkEntry t settings ≡ templateNumber (editionOf settings) t
+  pub timestamp-15 : timestampEntry t settings ≡ 15 ↔ (16 ≤ settings)
+  pub asked : settings < 16 → timestampEntry t settings ≡ timestampOf (readBy (editionOf settings) t)
 
 -- ---- any bytes as record
 
--- each refusal "Given exactly when"
-pub record RecordDemand1 (d : Laid) : Type 0 where
+-- each refusal "Given exactly when", in either form
+pub record RecordDemand1 (form : Form) (d : Laid) : Type 0 where
   -- accepted
-  pub passes : (recordRefusal d ≡ none) ↔ RecordPasses d
-  -- 14: "source over 1, level over 5, host without level, presence mask over 7, or an absent field with a non-zero length or line"
-  pub is-14 : (recordRefusal d ≡ some NotARecord) ↔ BadlyMarked d
-  -- 11: "a field over 4,096 bytes"
-  pub is-11 : (recordRefusal d ≡ some FieldTooLong) ↔ RecordLong d
+  pub passes : (recordRefusal form d ≡ none) ↔ RecordPasses form d
+  -- 14: "source over 1, level over 5, host without level, presence mask over 7, or an absent field with a non-zero length or line"; "14 now starts at mask 16, and in
+  -- old sheets still at 8"
+  pub is-14 : (recordRefusal form d ≡ some NotARecord) ↔ BadlyMarked form d
+  -- 11: "a field over 4,096 bytes"; "11 for the serial starts at 33 bytes"
+  pub is-11 : (recordRefusal form d ≡ some FieldTooLong) ↔ RecordLong form d
   -- 12: "a field not UTF-8"
-  pub is-12 : (recordRefusal d ≡ some FieldNotUtf8) ↔ RecordBroken d
+  pub is-12 : (recordRefusal form d ≡ some FieldNotUtf8) ↔ RecordBroken form d
   -- and no other
-  pub numbered : (r : Refusal) → recordRefusal d ≡ some r → (number r ≡ 11) ⊎ (number r ≡ 12) ⊎ (number r ≡ 14)
+  pub numbered : (r : Refusal) → recordRefusal form d ≡ some r → (number r ≡ 11) ⊎ (number r ≡ 12) ⊎ (number r ≡ 14)
 
 -- ---- any bytes as sheet
 
@@ -132,7 +134,7 @@ abbrev pub callNumber : List ℕ → ℕ → List ℕ → List ℕ → ℕ
 callNumber t settings d lent = numberOf (lineEntry t settings d lent)
 
 -- each number "Given exactly when", in the order 15; 1; 2; then 3 and 5 to 9, "the first met in the crate's own order of trying; 4"; 17; "14; then for
--- file, module, timestamp, message in turn 11 before 12; 13"
+-- file, module, timestamp, message in turn 11 before 12; 13"; the serial's "11 and 12 come after the message's"
 pub record CallDemand1 (t : List ℕ) (settings : ℕ) (d lent : List ℕ) : Type 0 where
   -- "an unknown settings bit or a record of the wrong size is 15"
   pub is-15 : callNumber t settings d lent ≡ 15 ↔ NoCall settings d
@@ -161,11 +163,11 @@ pub record CallDemand1 (t : List ℕ) (settings : ℕ) (d lent : List ℕ) : Typ
   pub place : IsCall settings d → (p : ℕ) → Drops (editionOf settings) t p → (left : List ℕ) (answer : ℕ)
       → Meets (lineEntry t settings d lent) lent left answer → answer / 256 ≡ p
   -- "source over 1, level over 5, host without level, presence mask over 7, or an absent field with a non-zero length or line"
-  pub is-14 : callNumber t settings d lent ≡ 14 ↔ (IsCall settings d × ((s : LogSegments) × Accepts (editionOf settings) t s) × BadlyMarked (laidOut d))
+  pub is-14 : callNumber t settings d lent ≡ 14 ↔ (IsCall settings d × ((s : LogSegments) × Accepts (editionOf settings) t s) × BadlyMarked (formOf settings) (laidIn settings d))
   -- "a field over 4,096 bytes"
-  pub is-11 : callNumber t settings d lent ≡ 11 ↔ (IsCall settings d × ((s : LogSegments) × Accepts (editionOf settings) t s) × RecordLong (laidOut d))
+  pub is-11 : callNumber t settings d lent ≡ 11 ↔ (IsCall settings d × ((s : LogSegments) × Accepts (editionOf settings) t s) × RecordLong (formOf settings) (laidIn settings d))
   -- "a field not UTF-8"
-  pub is-12 : callNumber t settings d lent ≡ 12 ↔ (IsCall settings d × ((s : LogSegments) × Accepts (editionOf settings) t s) × RecordBroken (laidOut d))
+  pub is-12 : callNumber t settings d lent ≡ 12 ↔ (IsCall settings d × ((s : LogSegments) × Accepts (editionOf settings) t s) × RecordBroken (formOf settings) (laidIn settings d))
   -- "the whole line is longer than the lent buffer; the needed length is returned"
   pub is-13 : callNumber t settings d lent ≡ 13 ↔ ((s : LogSegments) × AcceptedCall t settings d s × (length lent < length (callLine t settings d s)))
   pub needed : (s : LogSegments) → AcceptedCall t settings d s → (left : List ℕ) (answer : ℕ)

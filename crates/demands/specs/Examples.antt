@@ -6,6 +6,7 @@ use Rattle.buffer.specs.Bytes.{character, bytes}
 use Rattle.refusals.specs.Numbers.{number}
 use Rattle.colour.specs.declared.Settings.{Settings}
 use Rattle.colour.specs.Sequences.{visible}
+use Rattle.record.specs.declared.Form.{Form}
 use Rattle.record.specs.Layout.{Laid}
 use Rattle.colour.specs.Modes.{off, plain, straight, coloured}
 use Rattle.template.specs.declared.Edition.{Edition}
@@ -56,6 +57,7 @@ hello level mask file = record {
   modulePath = [];
   timestamp = [];
   message = bytes "hello";
+  serial = [];
 }
 
 abbrev info : Laid
@@ -134,7 +136,7 @@ unfolding buffer.computes utf8.computes characters.computes runs.computes letter
     segments.computes parts.computes braces.computes building.computes template.computes
     colour.computes records.computes checks.computes formats.computes paths.computes fields.computes answer.computes
 said [] = []
-said (x ∷ rest) = put-as (x .says) (outcome Edition.First (x .settings) (x .template) (x .record′) 100) ∷ said rest
+said (x ∷ rest) = put-as (x .says) (outcome Form.Old Edition.First (x .settings) (x .template) (x .record′) 100) ∷ said rest
 
 -- what the examples say
 pub expected : List Example → List Says

@@ -5,6 +5,8 @@ pub mod Demand1
 pub mod Demand2
 pub mod Demand3
 pub mod Examples
+pub mod HeadDemand
+pub mod HeadExamples
 pub mod LetterDemand
 pub mod Lines
 pub mod OneLine

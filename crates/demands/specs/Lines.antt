@@ -19,12 +19,14 @@ abbrev pub FreeGiven : Given → Type 0
 FreeGiven absent = Unit {0}
 FreeGiven (given t) = Free t
 
--- of a record: its four fields
+-- of a record: its five texts
 pub record FreeRecord (r : Record) : Type 0 where
   pub file : FreeGiven (r .file)
   pub modulePath : FreeGiven (r .modulePath)
   pub timestamp : Free (r .timestamp)
   pub message : Free (r .message)
+  -- "demand 3 holds for the new field too" (document 02, E7)
+  pub serial : FreeGiven (r .serial)
 
 -- of a template t: its text segments
 abbrev mutual

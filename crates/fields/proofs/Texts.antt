@@ -9,17 +9,17 @@ use Rattle.buffer.specs.Bytes.{part}
 use Rattle.buffer.specs.Table.{Maybe, none, some}
 use Rattle.buffer.proofs.Parts.{part-step}
 use Rattle.words.specs.declared.LogMetadata.{LogMetadata}
-use Rattle.words.specs.declared.LogMetadata.the-variants.{CrateName, FileName, FilePath, LineNumber, Log, LogLevel, ModulePath, Timestamp}
+use Rattle.words.specs.declared.LogMetadata.the-variants.{CrateName, FileName, FilePath, LineNumber, Log, LogLevel, ModulePath, Timestamp, HeadSerial}
 use Rattle.record.specs.declared.Places.{Places}
 use Rattle.record.specs.declared.Source.{Source}
 use Rattle.record.specs.Records.{Given, absent, given, Record}
 use Rattle.record.specs.Placed.{laidBy}
 use Rattle.record.specs.Levels.{levelOf, nameOf}
-use Rattle.record.specs.Contents.{hasFile, hasModule, givenIf, sourceOf, recordOf}
+use Rattle.record.specs.Contents.{hasFile, hasModule, hasSerial, givenIf, sourceOf, recordOf}
 use Rattle.fields.specs.declared.Fixed.{Fixed}
 use Rattle.fields.specs.declared.Wording.{Wording}
 use Rattle.paths.specs.Paths.{fileName, beforeColons}
-use Rattle.fields.specs.Texts.{noCrate, noFile, noModule, noTime, orPlaceholder, there, notEmpty, timeOf, wording}
+use Rattle.fields.specs.Texts.{noCrate, noFile, noModule, noTime, noHead, orPlaceholder, there, notEmpty, timeOf, wording}
 use Rattle.fields.specs.Wordings.{fixedText, bytesOf}
 use Rattle.fields.specs.Worded.{Worded}
 use Rattle.paths.proofs.Pieces.{part-none}
@@ -106,6 +106,16 @@ module _ (p : Places) (d : List ℕ) where
     unfolding bytesOf orPlaceholder notEmpty
     time-empty h =
         ap (λ (s : List ℕ). orPlaceholder noTime (notEmpty s)) (sym (part-none d (p .«timestamp_from») (p .«timestamp_to») h)) ∙ time-of
+
+  -- ---- the head's serial
+
+  pub head-there : eqb (p .mask / 8 % 2) 1 ≡ true → bytesOf (Wording.Part (p .«serial_from») (p .«serial_to»)) d ≡ wording (recordOf (laidBy p d)) HeadSerial
+  unfolding bytesOf wording recordOf laidBy hasSerial givenIf there orPlaceholder
+  head-there h = ap (λ (b : Bool). orPlaceholder noHead (there some (givenIf b (part (p .«serial_from») (p .«serial_to») d)))) (sym h)
+
+  pub head-absent : eqb (p .mask / 8 % 2) 1 ≡ false → bytesOf (Wording.Fixed Fixed.Head) d ≡ wording (recordOf (laidBy p d)) HeadSerial
+  unfolding bytesOf wording recordOf laidBy hasSerial givenIf there orPlaceholder
+  head-absent h = ap (λ (b : Bool). orPlaceholder noHead (there some (givenIf b (part (p .«serial_from») (p .«serial_to») d)))) (sym h)
 
   -- ---- the others
 

@@ -3,7 +3,7 @@ use Prim.Native.Nat.{ℕ}
 use mathlib.Core.List.{List, [], _∷_}
 use Rattle.buffer.specs.Bytes.{part}
 use Rattle.words.specs.declared.LogMetadata.{LogMetadata}
-use Rattle.words.specs.declared.LogMetadata.the-variants.{CrateName, FileName, FilePath, LineNumber, Log, LogLevel, ModulePath, Timestamp}
+use Rattle.words.specs.declared.LogMetadata.the-variants.{CrateName, FileName, FilePath, LineNumber, Log, LogLevel, ModulePath, Timestamp, HeadSerial}
 use Rattle.words.specs.declared.LogFormat.{LogFormat}
 use Rattle.colour.specs.declared.Settings.{Settings}
 use Rattle.colour.specs.Shown.{Shown, Members, joined}
@@ -36,6 +36,7 @@ specifierShown r Log f = messageFrom (r .source) r f
 specifierShown r LogLevel f = inFormat r LogLevel f
 specifierShown r ModulePath f = inFormat r ModulePath f
 specifierShown r Timestamp f = inFormat r Timestamp f
+specifierShown r HeadSerial f = inFormat r HeadSerial f
 
 -- each segment of the template t
 unfoldable mutual

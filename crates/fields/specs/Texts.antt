@@ -7,7 +7,7 @@ use lib.Dec.{ltb}
 use Rattle.buffer.specs.Bytes.{byte, bytes}
 use Rattle.buffer.specs.Table.{Maybe, none, some}
 use Rattle.words.specs.declared.LogMetadata.{LogMetadata}
-use Rattle.words.specs.declared.LogMetadata.the-variants.{CrateName, FileName, FilePath, LineNumber, Log, LogLevel, ModulePath, Timestamp}
+use Rattle.words.specs.declared.LogMetadata.the-variants.{CrateName, FileName, FilePath, LineNumber, Log, LogLevel, ModulePath, Timestamp, HeadSerial}
 use Rattle.record.specs.declared.Source.{Source}
 use Rattle.record.specs.declared.Source.the-variants.{Defmt, Host}
 use Rattle.record.specs.Levels.{nameOf}
@@ -31,6 +31,10 @@ noModule = bytes "<mod path>"
 -- "an empty timestamp or a host record gives `<time>`"
 abbrev pub noTime : List ℕ
 noTime = bytes "<time>"
+
+-- document 02, E7: "`<head>` when absent"
+abbrev pub noHead : List ℕ
+noHead = bytes "<head>"
 
 -- a text, or the placeholder where there is none
 unfoldable pub orPlaceholder : List ℕ → Maybe (List ℕ) → List ℕ
@@ -67,7 +71,8 @@ timeOf Host t = none
 
 -- ---- all specifiers
 
--- "Absent: `<file>`, `<mod path>`, line 0"; "`<crate>` without one"; "A present file with no component left gives `<file>`"
+-- "Absent: `<file>`, `<mod path>`, line 0"; "`<crate>` without one"; "A present file with no component left gives `<file>`"; "`<head>` when absent", and a
+-- serial that is present and empty shows nothing
 unfoldable pub wording : Record → LogMetadata → List ℕ
 wording r CrateName = orPlaceholder noCrate (there beforeColons (r .modulePath))
 wording r (FileName n) = orPlaceholder noFile (there (fileName n) (r .file))
@@ -77,3 +82,4 @@ wording r Log = r .message
 wording r LogLevel = nameOf (r .level)
 wording r ModulePath = orPlaceholder noModule (there some (r .modulePath))
 wording r Timestamp = orPlaceholder noTime (timeOf (r .source) (r .timestamp))
+wording r HeadSerial = orPlaceholder noHead (there some (r .serial))

@@ -9,7 +9,7 @@ use Rattle.fields.specs.declared.Wording.{Wording}
 use Rattle.paths.specs.Paths.{fileName}
 use Rattle.record.specs.declared.Name.{Name}
 use Rattle.record.specs.Levels.{levelName}
-use Rattle.fields.specs.Texts.{noCrate, noFile, noModule, noTime, orPlaceholder, decimalText}
+use Rattle.fields.specs.Texts.{noCrate, noFile, noModule, noTime, noHead, orPlaceholder, decimalText}
 
 -- placeholders and the names of levels
 abbrev pub fixedText : Fixed → List ℕ
@@ -18,6 +18,7 @@ fixedText Fixed.Crate = noCrate
 fixedText Fixed.File = noFile
 fixedText Fixed.ModulePath = noModule
 fixedText Fixed.Time = noTime
+fixedText Fixed.Head = noHead
 fixedText Fixed.Error = levelName Name.Error
 fixedText Fixed.Warn = levelName Name.Warn
 fixedText Fixed.Info = levelName Name.Info

@@ -7,6 +7,7 @@ use record::levels::level_of;
 use record::levels::source_of;
 use record::marks::has_file;
 use record::marks::has_module;
+use record::marks::has_serial;
 use words::LogMetadata;
 ghost use mathlib.Core.Path.{_≡_};
 ghost use mathlib.Core.List.{[], _∷_};
@@ -28,6 +29,7 @@ pub enum Fixed {
     File,
     ModulePath,
     Time,
+    Head,
     Error,
     Warn,
     Info,
@@ -57,6 +59,7 @@ pub fn wording_of(d: &[u8], p: Places, m: LogMetadata) -> Wording
         LogMetadata::LogLevel => Wording::Fixed(build_log_level(level_of(p.level))),
         LogMetadata::ModulePath => build_module_path(p),
         LogMetadata::Timestamp => build_timestamp(p),
+        LogMetadata::HeadSerial => build_head_serial(p),
     }
 }
 
@@ -117,6 +120,16 @@ fn build_module_path(p: Places) -> Wording
         return Wording::Part(p.module_from, p.module_to);
     }
     Wording::Fixed(Fixed::ModulePath)
+}
+
+// "`<head>` when absent": a serial that is present and empty shows nothing.
+fn build_head_serial(p: Places) -> Wording
+    ensures { λ r. ⌜ WordedAnywhere p LogMetadata.HeadSerial r ⌝ }
+{
+    if has_serial(p.mask) {
+        return Wording::Part(p.serial_from, p.serial_to);
+    }
+    Wording::Fixed(Fixed::Head)
 }
 
 fn build_crate_name(d: &[u8], p: Places) -> Wording

@@ -1,7 +1,7 @@
 -- The format of a specifier or a group, with defaults and the level's colour resolved (document 01, "Building a line"). Assumes nothing.
 use Prim.Native.Nat.{ℕ}
 use Rattle.words.specs.declared.LogMetadata.{LogMetadata}
-use Rattle.words.specs.declared.LogMetadata.the-variants.{CrateName, FileName, FilePath, LineNumber, Log, LogLevel, ModulePath, Timestamp}
+use Rattle.words.specs.declared.LogMetadata.the-variants.{CrateName, FileName, FilePath, LineNumber, Log, LogLevel, ModulePath, Timestamp, HeadSerial}
 use Rattle.words.specs.declared.Width.{Width}
 use Rattle.words.specs.declared.LogFormat.{LogFormat}
 use Rattle.colour.specs.declared.Ink.{Ink}
@@ -20,6 +20,7 @@ defaultWidth Log = 0
 defaultWidth LogLevel = 5
 defaultWidth ModulePath = 0
 defaultWidth Timestamp = 0
+defaultWidth HeadSerial = 0
 
 -- "`{L}` takes its level's colour unless another is asked"
 abbrev pub ownInk : Level → LogMetadata → Ink
@@ -31,6 +32,7 @@ ownInk l Log = Bare
 ownInk l LogLevel = severity l
 ownInk l ModulePath = Bare
 ownInk l Timestamp = Bare
+ownInk l HeadSerial = Bare
 
 -- the width asked for, or the default one
 abbrev pub widthFor : ℕ → Width → ℕ

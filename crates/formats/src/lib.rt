@@ -60,6 +60,7 @@ fn default_width(m: LogMetadata) -> usize
         LogMetadata::LogLevel => 5,
         LogMetadata::ModulePath => 0,
         LogMetadata::Timestamp => 0,
+        LogMetadata::HeadSerial => 0,
     }
 }
 
@@ -76,6 +77,7 @@ fn own_ink(number: usize, m: LogMetadata) -> Ink
         LogMetadata::LogLevel => color_for_log_level(level_of(number)),
         LogMetadata::ModulePath => Ink::Bare,
         LogMetadata::Timestamp => Ink::Bare,
+        LogMetadata::HeadSerial => Ink::Bare,
     }
 }
 

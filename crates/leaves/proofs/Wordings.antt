@@ -11,17 +11,17 @@ use lib.ListN.{length, drop, length-append}
 use Rattle.buffer.specs.Bytes.{bytes, same}
 use Rattle.buffer.specs.Table.{Maybe, none, some}
 use Rattle.words.specs.declared.LogMetadata.{LogMetadata}
-use Rattle.words.specs.declared.LogMetadata.the-variants.{CrateName, FileName, FilePath, LineNumber, Log, LogLevel, ModulePath, Timestamp}
+use Rattle.words.specs.declared.LogMetadata.the-variants.{CrateName, FileName, FilePath, LineNumber, Log, LogLevel, ModulePath, Timestamp, HeadSerial}
 use Rattle.record.specs.declared.Source.{Source}
 use Rattle.record.specs.declared.Level.{Level}
 use Rattle.record.specs.declared.Level.the-variants.{Print, Named, Refused}
 use Rattle.record.specs.declared.Name.the-variants.{Error, Warn, Info, Debug, Trace}
 use Rattle.record.specs.Layout.{Laid}
 use Rattle.record.specs.Levels.{levelOf, nameOf}
-use Rattle.record.specs.Contents.{sourceOf, hasFile, hasModule, givenIf, recordOf}
+use Rattle.record.specs.Contents.{sourceOf, hasFile, hasModule, hasSerial, givenIf, recordOf}
 use Rattle.paths.specs.Paths.{components, lastOf, slashed, joinedBySlash, fileName, after-byte, beforeColons}
 use Rattle.paths.proofs.Short.{slashed-first, slashed-components}
-use Rattle.fields.specs.Texts.{noCrate, noFile, noModule, noTime, orPlaceholder, there, digits, decimalText, notEmpty, timeOf, wording}
+use Rattle.fields.specs.Texts.{noCrate, noFile, noModule, noTime, noHead, orPlaceholder, there, digits, decimalText, notEmpty, timeOf, wording}
 use Rattle.leaves.specs.Places.{Short}
 
 -- a text of n bytes at most, if there is one
@@ -128,3 +128,6 @@ wording-short d h ModulePath =
 wording-short d h Timestamp =
     placeholder noTime (timeOf (sourceOf (d .source)) (d .timestamp)) 8200 (omega arith)
     (weaker (timeOf (sourceOf (d .source)) (d .timestamp)) (length (d .timestamp)) 8200 (omega (arith, h .timestamp)) (time-within (sourceOf (d .source)) (d .timestamp)))
+wording-short d h HeadSerial =
+    placeholder noHead (there some (givenIf (hasSerial d) (d .serial))) 8200 (omega arith)
+    (there-within some (hasSerial d) (d .serial) 8200 (omega (arith, h .serial)))

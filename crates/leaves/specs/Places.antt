@@ -1,4 +1,4 @@
--- Scaffolding, for proofs alone: A record's numbers as a lent row of twelve, in the order of `Places`. Assumes nothing.
+-- Scaffolding, for proofs alone: A record's numbers as a lent row of fourteen, in the order of `Places`. Assumes nothing.
 use Prim.Native.Nat.{ℕ, _≤_}
 use mathlib.Core.List.{List}
 use lib.ListN.{length, getD}
@@ -25,6 +25,8 @@ placesOf n = record {
   «timestamp_to» = getD n 9 0;
   «message_from» = getD n 10 0;
   «message_to» = getD n 11 0;
+  «serial_from» = getD n 12 0;
+  «serial_to» = getD n 13 0;
 }
 
 -- the record whose numbers are n and whose bytes are d
@@ -38,16 +40,17 @@ sourceBy n = sourceOf (getD n 0 0)
 unfoldable pub levelBy : List ℕ → Level
 levelBy n = levelOf (getD n 1 0)
 
--- no text is longer than refusal 11 allows
+-- no text is longer than refusal 11 allows the longest
 pub record Short (d : Laid) : Type 0 where
   pub file : length (d .file) ≤ 4096
   pub modulePath : length (d .modulePath) ≤ 4096
   pub timestamp : length (d .timestamp) ≤ 4096
   pub message : length (d .message) ≤ 4096
+  pub serial : length (d .serial) ≤ 4096
 
 -- what is lent can be read: n segments, and a record's numbers and bytes
 pub record Readable (cells d numbers : List ℕ) (n : ℕ) : Type 0 where
   pub pool : 512 ≤ length cells
   pub few : n ≤ 64
-  pub twelve : 12 ≤ length numbers
+  pub row : 14 ≤ length numbers
   pub places : PlacesWithin (length d) (placesOf numbers)

@@ -55,7 +55,7 @@ pub fn put_text(cells: &[usize], t: &[u8], i: usize, out: &mut [u8], at: usize) 
 
 // What the specifier m shows, on top of a measure.
 pub fn add_field(d: &[u8], numbers: &[usize], m: LogMetadata, a: Measure) -> Measure
-    requires { ⌜ (12 ≤ length (now numbers)) × PlacesWithin (length (now d)) (placesOf (now numbers)) ⌝ }
+    requires { ⌜ (14 ≤ length (now numbers)) × PlacesWithin (length (now d)) (placesOf (now numbers)) ⌝ }
     requires { ⌜ (Small a) × (a .len + length (wording (recordBy (now numbers) (now d)) m) < 2 ^ 58) ⌝ }
     ensures { λ r. ⌜ r ≡ grown a (wording (recordBy (now (numbers .entry)) (now (d .entry))) m) ⌝ }
 {
@@ -64,7 +64,7 @@ pub fn add_field(d: &[u8], numbers: &[usize], m: LogMetadata, a: Measure) -> Mea
 }
 
 pub fn field_len(d: &[u8], numbers: &[usize], m: LogMetadata) -> usize
-    requires { ⌜ (12 ≤ length (now numbers)) × PlacesWithin (length (now d)) (placesOf (now numbers)) ⌝ }
+    requires { ⌜ (14 ≤ length (now numbers)) × PlacesWithin (length (now d)) (placesOf (now numbers)) ⌝ }
     requires { ⌜ length (wording (recordBy (now numbers) (now d)) m) < 2 ^ 58 ⌝ }
     ensures { λ r. ⌜ r ≡ length (wording (recordBy (now (numbers .entry)) (now (d .entry))) m) ⌝ }
 {
@@ -73,7 +73,7 @@ pub fn field_len(d: &[u8], numbers: &[usize], m: LogMetadata) -> usize
 }
 
 pub fn put_field(d: &[u8], numbers: &[usize], m: LogMetadata, out: &mut [u8], at: usize) -> usize
-    requires { ⌜ (12 ≤ length (now numbers)) × PlacesWithin (length (now d)) (placesOf (now numbers)) ⌝ }
+    requires { ⌜ (14 ≤ length (now numbers)) × PlacesWithin (length (now d)) (placesOf (now numbers)) ⌝ }
     requires { ⌜ at + length (wording (recordBy (now numbers) (now d)) m) ≤ length (now out) ⌝ }
     ensures { λ r. ⌜ Puts (now (out .entry)) (now (out .exit)) at (wording (recordBy (now (numbers .entry)) (now (d .entry))) m) r ⌝ }
 {
@@ -82,7 +82,7 @@ pub fn put_field(d: &[u8], numbers: &[usize], m: LogMetadata, out: &mut [u8], at
 }
 
 fn wording_at(d: &[u8], numbers: &[usize], m: LogMetadata) -> Wording
-    requires { ⌜ (12 ≤ length (now numbers)) × PlacesWithin (length (now d)) (placesOf (now numbers)) ⌝ }
+    requires { ⌜ (14 ≤ length (now numbers)) × PlacesWithin (length (now d)) (placesOf (now numbers)) ⌝ }
     ensures { λ r. ⌜ Tells r (now (d .entry)) (wording (recordBy (now (numbers .entry)) (now (d .entry))) m) ⌝ }
 {
     let p = places_at(numbers);
@@ -91,7 +91,7 @@ fn wording_at(d: &[u8], numbers: &[usize], m: LogMetadata) -> Wording
 
 // The record's places as the lent row has them.
 fn places_at(numbers: &[usize]) -> Places
-    requires { ⌜ 12 ≤ length (now numbers) ⌝ }
+    requires { ⌜ 14 ≤ length (now numbers) ⌝ }
     ensures { λ r. ⌜ r ≡ placesOf (now (numbers .entry)) ⌝ }
 {
     Places {
@@ -107,5 +107,7 @@ fn places_at(numbers: &[usize]) -> Places
         timestamp_to: numbers[9],
         message_from: numbers[10],
         message_to: numbers[11],
+        serial_from: numbers[12],
+        serial_to: numbers[13],
     }
 }

@@ -8,7 +8,7 @@ use native.Mathlib.Nat.{add-mul, one-mul, mul-le-mul-right, mul-assoc, mul-comm}
 use lib.ListN.{length, drop, length-append, length-take, length-drop}
 use Rattle.buffer.specs.Bytes.{part}
 use Rattle.words.specs.declared.LogMetadata.{LogMetadata}
-use Rattle.words.specs.declared.LogMetadata.the-variants.{CrateName, FileName, FilePath, LineNumber, Log, LogLevel, ModulePath, Timestamp}
+use Rattle.words.specs.declared.LogMetadata.the-variants.{CrateName, FileName, FilePath, LineNumber, Log, LogLevel, ModulePath, Timestamp, HeadSerial}
 use Rattle.words.specs.declared.LogFormat.{LogFormat}
 use Rattle.words.specs.declared.Width.{Width}
 use Rattle.colour.specs.declared.Settings.{Settings}
@@ -51,6 +51,7 @@ default-narrow Log = omega arith
 default-narrow LogLevel = omega arith
 default-narrow ModulePath = omega arith
 default-narrow Timestamp = omega arith
+default-narrow HeadSerial = omega arith
 
 specifier-narrow : (l : Level) (m : LogMetadata) (f : LogFormat) → Narrow (f .width) → specifierFormat l m f .width ≤ 512
 unfolding formatFor

@@ -59,6 +59,7 @@ fn is_log(m: LogMetadata) -> bool
         LogMetadata::LogLevel => false,
         LogMetadata::ModulePath => false,
         LogMetadata::Timestamp => false,
+        LogMetadata::HeadSerial => false,
     }
 }
 
@@ -74,5 +75,6 @@ fn is_timestamp(m: LogMetadata) -> bool
         LogMetadata::LogLevel => false,
         LogMetadata::ModulePath => false,
         LogMetadata::Timestamp => true,
+        LogMetadata::HeadSerial => false,
     }
 }

@@ -17,6 +17,7 @@ use Rattle.buffer.proofs.Writing.{join}
 use Rattle.refusals.specs.declared.Refusal.{Refusal}
 use Rattle.colour.specs.declared.Settings.{Settings}
 use Rattle.segments.specs.Segments.{LogSegments}
+use Rattle.record.specs.declared.Form.{Form}
 use Rattle.record.specs.Layout.{Laid}
 use Rattle.checks.specs.Checks.{recordRefusal}
 use Rattle.record.specs.Contents.{recordOf}
@@ -82,7 +83,7 @@ was-held room s x e =
     let t = by-test (leb (length s) room) s x e in
     (subst (λ (y : List ℕ). length y ≤ room) (t .1) (leb-true (length s) room (t .0)), t .1)
 
-module _ (settings : Settings) (t : List ℕ) (s : LogSegments) (d : Laid) (room : ℕ) (x : List ℕ) where
+module _ (form : Form) (settings : Settings) (t : List ℕ) (s : LogSegments) (d : Laid) (room : ℕ) (x : List ℕ) where
   by-check : (m : Maybe Refusal) → passed settings t s d room m ≡ line x → (length x ≤ room) × ((other : ℕ) → length x ≤ other → passed settings t s d other m ≡ line x)
   unfolding passed
   by-check none e =
@@ -90,13 +91,13 @@ module _ (settings : Settings) (t : List ℕ) (s : LogSegments) (d : Laid) (room
       (w .0, λ other h. subst (λ (y : List ℕ). inRoom other y ≡ line x) (sym (w .1)) (held other x h))
   by-check (some r) e = let z : _≡_ {A = ℕ} 0 1 = cc in absurd (omega (arith, z))
 
-  pub line-fits : recordOutcome settings t s d room ≡ line x → length x ≤ room
+  pub line-fits : recordOutcome form settings t s d room ≡ line x → length x ≤ room
   unfolding recordOutcome
-  line-fits e = by-check (recordRefusal d) e .0
+  line-fits e = by-check (recordRefusal form d) e .0
 
-  pub line-again : (other : ℕ) → recordOutcome settings t s d room ≡ line x → length x ≤ other → recordOutcome settings t s d other ≡ line x
+  pub line-again : (other : ℕ) → recordOutcome form settings t s d room ≡ line x → length x ≤ other → recordOutcome form settings t s d other ≡ line x
   unfolding recordOutcome
-  line-again other e h = by-check (recordRefusal d) e .1 other h
+  line-again other e h = by-check (recordRefusal form d) e .1 other h
 
 -- ---- a record that was measured
 
@@ -113,31 +114,31 @@ part-written d x at h =
     ∙ ap (λ (l : List ℕ). take at d ++ l) (append-nil (x ++ drop (length x) p))
     ∙ ap (λ (l : List ℕ). take at d ++ (x ++ l)) (drop-drop (length x) at d)
 
-module _ (settings : Settings) (t : List ℕ) (s : LogSegments) (d : Laid) (k : ℕ) (e : Answer.Line k ≡ answerOf (recordOutcome settings t s d lineRoom)) where
+module _ (form : Form) (settings : Settings) (t : List ℕ) (s : LogSegments) (d : Laid) (k : ℕ) (e : Answer.Line k ≡ answerOf (recordOutcome form settings t s d lineRoom)) where
   abbrev its : Outcome
-  its = recordOutcome settings t s d lineRoom
+  its = recordOutcome form settings t s d lineRoom
 
-  abbrev told : Lined (recordOutcome settings t s d lineRoom) k
-  told = lined (recordOutcome settings t s d lineRoom) k e
+  abbrev told : Lined (recordOutcome form settings t s d lineRoom) k
+  told = lined (recordOutcome form settings t s d lineRoom) k e
 
-  pub measured : (length (outcomeLine (recordOutcome settings t s d lineRoom)) ≡ k + 1) × (k ≤ 65536)
+  pub measured : (length (outcomeLine (recordOutcome form settings t s d lineRoom)) ≡ k + 1) × (k ≤ 65536)
   measured =
-      let f = line-fits settings t s d lineRoom (told .text) (told .is) in
+      let f = line-fits form settings t s d lineRoom (told .text) (told .is) in
       (omega (arith, line-length its (told .text) (told .is), told .long), omega (arith, f, told .long))
 
   -- the line, then the newline after it
-  pub line-written : (out mid out′ : List ℕ) (at : ℕ) → at + length (outcomeLine (recordOutcome settings t s d lineRoom)) ≤ length out
-      → mid ≡ bufferAfter (part at (length out) out) (recordOutcome settings t s d (length (part at (length out) out)))
+  pub line-written : (out mid out′ : List ℕ) (at : ℕ) → at + length (outcomeLine (recordOutcome form settings t s d lineRoom)) ≤ length out
+      → mid ≡ bufferAfter (part at (length out) out) (recordOutcome form settings t s d (length (part at (length out) out)))
       → out′ ≡ putAt (take at out ++ (mid ++ drop (length out - at) (drop at out))) (at + k) (10 ∷ [])
-      → out′ ≡ putAt out at (outcomeLine (recordOutcome settings t s d lineRoom))
+      → out′ ≡ putAt out at (outcomeLine (recordOutcome form settings t s d lineRoom))
   line-written out mid out′ at h f g =
       let x = told .text in
       let long = told .long in
       let m = measured in
       let p = part at (length out) out in
       let room : length x ≤ length p = omega (arith, part-length out at (length out) (omega arith) (omega arith)) in
-      let again = line-again settings t s d lineRoom x (length p) (told .is) room in
-      let front : mid ≡ putAt p 0 x = f ∙ line-left p (recordOutcome settings t s d (length p)) x again in
+      let again = line-again form settings t s d lineRoom x (length p) (told .is) room in
+      let front : mid ≡ putAt p 0 x = f ∙ line-left p (recordOutcome form settings t s d (length p)) x again in
       let whole = ap (λ (l : List ℕ). take at out ++ (l ++ drop (length out - at) (drop at out))) front ∙ part-written out x at (omega arith) in
       join out (take at out ++ (mid ++ drop (length out - at) (drop at out))) out′ at (at + k) x (10 ∷ []) whole g (omega arith) (omega arith)
       ∙ ap (putAt out at) (sym (line-shown its x (told .is)))
@@ -153,8 +154,8 @@ most : (o : Outcome) → ((x : List ℕ) → o ≡ line x → length x ≤ 65536
 most (line x) h = omega (arith, h x refl, line-length (line x) x refl)
 most (refused r) h = omega (arith, refusal-most r, ap length (refusal-shown (refused r) r refl))
 
-pub outcome-most : (settings : Settings) (t : List ℕ) (s : LogSegments) (d : Laid) → length (outcomeLine (recordOutcome settings t s d lineRoom)) ≤ 65537
-outcome-most settings t s d = most (recordOutcome settings t s d lineRoom) (λ x e. line-fits settings t s d lineRoom x e)
+pub outcome-most : (form : Form) (settings : Settings) (t : List ℕ) (s : LogSegments) (d : Laid) → length (outcomeLine (recordOutcome form settings t s d lineRoom)) ≤ 65537
+outcome-most form settings t s d = most (recordOutcome form settings t s d lineRoom) (λ x e. line-fits form settings t s d lineRoom x e)
 
 -- ---- the answer and the buffer, whether a text fits the room or not
 

@@ -12,7 +12,7 @@ use Rattle.template.specs.Template.{Template, read, refusal, readBy}
 use Rattle.fields.specs.Texts.{digits, decimalText}
 use Rattle.record.specs.Layout.{Laid}
 use Rattle.answer.specs.Answers.{Outcome, line, refused, inRoom, recordOutcome}
-use Rattle.settings.specs.Bits.{settingsOf, editionOf}
+use Rattle.settings.specs.Bits.{settingsOf, editionOf, formOf}
 use Rattle.sheet.specs.Sheets.{Sheet, sheetOf}
 use Rattle.sheet.specs.Computing as sheet
 
@@ -32,7 +32,7 @@ lineRoom = 65536
 -- the lines of the records, one after the other
 unfoldable pub recordLines : Sheet → LogSegments → List Laid → List ℕ
 recordLines h s [] = []
-recordLines h s (d ∷ rest) = outcomeLine (recordOutcome (settingsOf (h .settings)) (h .template) s d lineRoom) ++ recordLines h s rest
+recordLines h s (d ∷ rest) = outcomeLine (recordOutcome (formOf (h .settings)) (settingsOf (h .settings)) (h .template) s d lineRoom) ++ recordLines h s rest
 
 -- the lines of a sheet's records, or the refusal of the whole sheet
 unfoldable pub sheetText : Sheet → Template → Outcome

@@ -4,6 +4,7 @@ use answer::record_line;
 use buffer::put;
 use colour::Settings;
 use packing::Answer;
+use record::Form;
 use refusing::put_refusal;
 use refusing::refusal_length;
 ghost use mathlib.Core.Path.{_≡_};
@@ -22,11 +23,18 @@ pub mod refusing;
 const LINE_ROOM: usize = 65536;
 
 // How many bytes are written for the record d.
-pub fn outcome_length(cells: &[usize], n: usize, t: &[u8], s: Settings, d: &[u8]) -> usize
-    requires { ⌜ (512 ≤ length (now cells)) × (ReadKeeps (now cells) n × ((length (now t) ≤ 1024) × (rightSize (now d) ≡ true))) ⌝ }
-    ensures { λ r. ⌜ (r ≡ length (outcomeLine (outcomeBy s (now (t .entry)) (now (cells .entry)) n (now (d .entry)) lineRoom))) × (r ≤ 65537) ⌝ }
+pub fn outcome_length(
+    form: Form,
+    cells: &[usize],
+    n: usize,
+    t: &[u8],
+    s: Settings,
+    d: &[u8],
+) -> usize
+    requires { ⌜ (512 ≤ length (now cells)) × (ReadKeeps (now cells) n × ((length (now t) ≤ 1024) × (rightSize form (now d) ≡ true))) ⌝ }
+    ensures { λ r. ⌜ (r ≡ length (outcomeLine (outcomeBy form s (now (t .entry)) (now (cells .entry)) n (now (d .entry)) lineRoom))) × (r ≤ 65537) ⌝ }
 {
-    let a = measure_record(cells, n, t, s, d, LINE_ROOM);
+    let a = measure_record(form, cells, n, t, s, d, LINE_ROOM);
     match a {
         Answer::Line(k) => k + 1,
         Answer::Refused(r) => refusal_length(r),
@@ -35,6 +43,7 @@ pub fn outcome_length(cells: &[usize], n: usize, t: &[u8], s: Settings, d: &[u8]
 
 // Writes them at the place `at`, and returns the place after them.
 pub fn put_outcome(
+    form: Form,
     cells: &[usize],
     n: usize,
     t: &[u8],
@@ -43,14 +52,14 @@ pub fn put_outcome(
     out: &mut [u8],
     at: usize,
 ) -> usize
-    requires { ⌜ (512 ≤ length (now cells)) × (ReadKeeps (now cells) n × ((length (now t) ≤ 1024) × (rightSize (now d) ≡ true))) ⌝ }
-    requires { ⌜ at + length (outcomeLine (outcomeBy s (now t) (now cells) n (now d) lineRoom)) ≤ length (now out) ⌝ }
-    ensures { λ r. ⌜ Puts (now (out .entry)) (now (out .exit)) at (outcomeLine (outcomeBy s (now (t .entry)) (now (cells .entry)) n (now (d .entry)) lineRoom)) r ⌝ }
+    requires { ⌜ (512 ≤ length (now cells)) × (ReadKeeps (now cells) n × ((length (now t) ≤ 1024) × (rightSize form (now d) ≡ true))) ⌝ }
+    requires { ⌜ at + length (outcomeLine (outcomeBy form s (now t) (now cells) n (now d) lineRoom)) ≤ length (now out) ⌝ }
+    ensures { λ r. ⌜ Puts (now (out .entry)) (now (out .exit)) at (outcomeLine (outcomeBy form s (now (t .entry)) (now (cells .entry)) n (now (d .entry)) lineRoom)) r ⌝ }
 {
-    let a = measure_record(cells, n, t, s, d, LINE_ROOM);
+    let a = measure_record(form, cells, n, t, s, d, LINE_ROOM);
     match a {
         Answer::Line(k) => {
-            record_line(cells, n, t, s, d, &mut out[at..]);
+            record_line(form, cells, n, t, s, d, &mut out[at..]);
             put(out, at + k, b"\n")
         }
         Answer::Refused(r) => put_refusal(r, out, at),

@@ -20,6 +20,10 @@ hasLine d = eqb (d .mask / 2 % 2) 1
 unfoldable pub hasModule : Laid → Bool
 hasModule d = eqb (d .mask / 4 % 2) 1
 
+-- "Presence mask 8 marks it": the head's serial
+unfoldable pub hasSerial : Laid → Bool
+hasSerial d = eqb (d .mask / 8 % 2) 1
+
 -- "0 device, 1 host"
 unfoldable pub sourceOf : ℕ → Source
 sourceOf zero = Source.Defmt
@@ -40,4 +44,5 @@ recordOf d = record {
   modulePath = givenIf (hasModule d) (d .modulePath);
   timestamp = d .timestamp;
   message = d .message;
+  serial = givenIf (hasSerial d) (d .serial);
 }

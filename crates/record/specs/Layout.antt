@@ -1,11 +1,13 @@
 -- A record as bytes (document 01, "Session sheet and its program"): "source byte (0 device, 1 host), level byte, presence mask (1 file,
--- 2 line, 4 module), u32 line, u16 lengths of file, module, timestamp, message, then those texts". Assumes nothing.
+-- 2 line, 4 module), u32 line, u16 lengths of file, module, timestamp, message, then those texts"; in the new form (document 02, E7) a fifth text, the head's
+-- serial, "and its length comes after the message's". Assumes nothing.
 use Prim.Native.Nat.{ℕ, zero, suc, _+_, _*_, _%_, _/_}
 use mathlib.Core.Bool.{Bool, true, false, _&&_}
 use mathlib.Core.List.{List, [], _∷_}
 use lib.Dec.{eqb, leb}
 use lib.ListN.{length, getD}
 use Rattle.buffer.specs.Bytes.{part}
+use Rattle.record.specs.declared.Form.{Form}
 
 -- "all numbers are little-endian": the number in n bytes from place i on
 unfoldable pub littleEndian : ℕ → List ℕ → ℕ → ℕ
@@ -30,40 +32,52 @@ pub record Laid : Type 0 where
   pub modulePath : List ℕ
   pub timestamp : List ℕ
   pub message : List ℕ
+  pub serial : List ℕ
 
--- where the texts begin, and where each ends
-abbrev pub texts : ℕ
-texts = 15
+-- where the texts begin: after three bytes, the line and four lengths, in the new form after a fifth
+abbrev pub texts : Form → ℕ
+texts Form.Old = 15
+texts Form.New = 17
+
+-- "its length comes after the message's"; an old record has none
+abbrev pub serialLength : Form → List ℕ → ℕ
+serialLength Form.Old d = 0
+serialLength Form.New d = u16 d 15
 
 -- where the file's text ends
-abbrev pub fileEnd : List ℕ → ℕ
-fileEnd d = texts + u16 d 7
+abbrev pub fileEnd : Form → List ℕ → ℕ
+fileEnd form d = texts form + u16 d 7
 
 -- where the module's text ends
-abbrev pub moduleEnd : List ℕ → ℕ
-moduleEnd d = fileEnd d + u16 d 9
+abbrev pub moduleEnd : Form → List ℕ → ℕ
+moduleEnd form d = fileEnd form d + u16 d 9
 
 -- where the timestamp's text ends
-abbrev pub timestampEnd : List ℕ → ℕ
-timestampEnd d = moduleEnd d + u16 d 11
+abbrev pub timestampEnd : Form → List ℕ → ℕ
+timestampEnd form d = moduleEnd form d + u16 d 11
 
 -- where the message's text ends
-abbrev pub messageEnd : List ℕ → ℕ
-messageEnd d = timestampEnd d + u16 d 13
+abbrev pub messageEnd : Form → List ℕ → ℕ
+messageEnd form d = timestampEnd form d + u16 d 13
+
+-- where the serial's text ends
+abbrev pub serialEnd : Form → List ℕ → ℕ
+serialEnd form d = messageEnd form d + serialLength form d
 
 -- a record of the right size
-unfoldable pub rightSize : List ℕ → Bool
-rightSize d = leb texts (length d) && eqb (messageEnd d) (length d)
+unfoldable pub rightSize : Form → List ℕ → Bool
+rightSize form d = leb (texts form) (length d) && eqb (serialEnd form d) (length d)
 
 -- the record that bytes lay out
-unfoldable pub laidOut : List ℕ → Laid
-laidOut d = record {
+unfoldable pub laidOut : Form → List ℕ → Laid
+laidOut form d = record {
   source = getD d 0 0;
   level = getD d 1 0;
   mask = getD d 2 0;
   line = u32 d 3;
-  file = part texts (fileEnd d) d;
-  modulePath = part (fileEnd d) (moduleEnd d) d;
-  timestamp = part (moduleEnd d) (timestampEnd d) d;
-  message = part (timestampEnd d) (messageEnd d) d;
+  file = part (texts form) (fileEnd form d) d;
+  modulePath = part (fileEnd form d) (moduleEnd form d) d;
+  timestamp = part (moduleEnd form d) (timestampEnd form d) d;
+  message = part (timestampEnd form d) (messageEnd form d) d;
+  serial = part (messageEnd form d) (serialEnd form d) d;
 }

@@ -19,3 +19,4 @@ pub record Record : Type 0 where
   pub modulePath : Given
   pub timestamp : List ℕ
   pub message : List ℕ
+  pub serial : Given

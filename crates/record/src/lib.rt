@@ -28,6 +28,12 @@ pub enum Level {
     Refused,
 }
 
+// How a record is laid out: the new form has a fifth text, the serial of the head that measured.
+pub enum Form {
+    Old,
+    New,
+}
+
 // A record as numbers: what its bytes say, and the places of its texts in them.
 pub struct Places {
     pub source: usize,
@@ -42,4 +48,6 @@ pub struct Places {
     pub timestamp_to: usize,
     pub message_from: usize,
     pub message_to: usize,
+    pub serial_from: usize,
+    pub serial_to: usize,
 }

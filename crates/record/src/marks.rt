@@ -21,3 +21,10 @@ pub fn has_module(mask: usize) -> bool
 {
     mask / 4 % 2 == 1
 }
+
+// "Presence mask 8 marks it"
+pub fn has_serial(mask: usize) -> bool
+    ensures { λ r. ⌜ r ≡ eqb (mask / 8 % 2) 1 ⌝ }
+{
+    mask / 8 % 2 == 1
+}

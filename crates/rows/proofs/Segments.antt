@@ -9,7 +9,7 @@ use Rattle.buffer.specs.Bytes.{part}
 use Rattle.buffer.specs.Buffer.{putAt}
 use Rattle.buffer.proofs.Writing.{put-nil, join}
 use Rattle.words.specs.declared.LogMetadata.{LogMetadata}
-use Rattle.words.specs.declared.LogMetadata.the-variants.{CrateName, FileName, FilePath, LineNumber, Log, LogLevel, ModulePath, Timestamp}
+use Rattle.words.specs.declared.LogMetadata.the-variants.{CrateName, FileName, FilePath, LineNumber, Log, LogLevel, ModulePath, Timestamp, HeadSerial}
 use Rattle.words.specs.declared.LogFormat.{LogFormat}
 use Rattle.colour.specs.declared.Settings.{Settings}
 use Rattle.colour.specs.Formatting.{formatted}
@@ -63,6 +63,7 @@ module _ (s : Settings) (t : List ℕ) (r : Record) where
   specifier-bare LogLevel f e = cc
   specifier-bare ModulePath f e = cc
   specifier-bare Timestamp f e = cc
+  specifier-bare HeadSerial f e = cc
 
   specifier-formatted : (m : LogMetadata) (f : LogFormat) → bareFrom (r .source) m ≡ false
       → textOf s (specifierShown r m f) ≡ formatted s (specifierFormat (r .level) m f) (wording r m)
@@ -75,6 +76,7 @@ module _ (s : Settings) (t : List ℕ) (r : Record) where
   specifier-formatted LogLevel f e = refl
   specifier-formatted ModulePath f e = refl
   specifier-formatted Timestamp f e = refl
+  specifier-formatted HeadSerial f e = refl
 
   pub segment-bare : (x : LogSegment) → isBare (r .source) x ≡ true → segmentText s t r x ≡ rawText s t r x
   unfolding isBare rawText segmentShown textOf

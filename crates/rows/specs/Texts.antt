@@ -4,7 +4,7 @@ use mathlib.Core.Bool.{Bool, true, false}
 use mathlib.Core.List.{List}
 use Rattle.buffer.specs.Bytes.{part}
 use Rattle.words.specs.declared.LogMetadata.{LogMetadata}
-use Rattle.words.specs.declared.LogMetadata.the-variants.{CrateName, FileName, FilePath, LineNumber, Log, LogLevel, ModulePath, Timestamp}
+use Rattle.words.specs.declared.LogMetadata.the-variants.{CrateName, FileName, FilePath, LineNumber, Log, LogLevel, ModulePath, Timestamp, HeadSerial}
 use Rattle.colour.specs.declared.Settings.{Settings}
 use Rattle.colour.specs.declared.Format.{Format}
 use Rattle.colour.specs.Shown.{textOf, joined}
@@ -55,6 +55,7 @@ bareFrom q Log = isHost q
 bareFrom q LogLevel = false
 bareFrom q ModulePath = false
 bareFrom q Timestamp = false
+bareFrom q HeadSerial = false
 
 -- a segment that is never formatted: a text, or a host's message
 unfoldable pub isBare : Source → LogSegment → Bool

@@ -22,7 +22,7 @@ ghost use Rattle.rows.specs.Rows.{rowAt, frameBy};
 
 // Whether the segment at i is never formatted.
 pub fn is_bare(cells: &[usize], numbers: &[usize], i: usize) -> bool
-    requires { ⌜ (512 ≤ length (now cells)) × ((i < 64) × (12 ≤ length (now numbers))) ⌝ }
+    requires { ⌜ (512 ≤ length (now cells)) × ((i < 64) × (14 ≤ length (now numbers))) ⌝ }
     ensures { λ r. ⌜ r ≡ isBare (sourceBy (now (numbers .entry))) (segmentAt (now (cells .entry)) i) ⌝ }
 {
     let kind = kind_at(cells, i);
@@ -49,7 +49,7 @@ fn is_bare_from(source: Source, m: LogMetadata) -> bool
 
 // The format of the segment at i.
 pub(crate) fn format_of(cells: &[usize], numbers: &[usize], i: usize) -> Format
-    requires { ⌜ (512 ≤ length (now cells)) × ((i < 64) × (12 ≤ length (now numbers))) ⌝ }
+    requires { ⌜ (512 ≤ length (now cells)) × ((i < 64) × (14 ≤ length (now numbers))) ⌝ }
     requires { ⌜ isBare (sourceBy (now numbers)) (segmentAt (now cells) i) ≡ false ⌝ }
     ensures { λ r. ⌜ r ≡ formatOf (levelBy (now (numbers .entry))) (segmentAt (now (cells .entry)) i) ⌝ }
 {
@@ -76,7 +76,7 @@ fn row_at(table: &[usize], i: usize) -> Row
 
 // The format of the segment at i, with what its row says.
 pub fn frame_at(cells: &[usize], table: &[usize], numbers: &[usize], i: usize) -> Frame
-    requires { ⌜ (512 ≤ length (now cells)) × ((i < 64) × (12 ≤ length (now numbers))) ⌝ }
+    requires { ⌜ (512 ≤ length (now cells)) × ((i < 64) × (14 ≤ length (now numbers))) ⌝ }
     requires { ⌜ isBare (sourceBy (now numbers)) (segmentAt (now cells) i) ≡ false ⌝ }
     requires { ⌜ 3 * i + 3 ≤ length (now table) ⌝ }
     ensures { λ r. ⌜ r ≡ frameBy (formatOf (levelBy (now (numbers .entry))) (segmentAt (now (cells .entry)) i)) (rowAt (now (table .entry)) i) ⌝ }

@@ -2,7 +2,7 @@
 -- contracts of segments/src/coding.rt. Assumes nothing.
 use Prim.Native.Nat.{ℕ, _+_, _*_}
 use Rattle.words.specs.declared.LogMetadata.{LogMetadata}
-use Rattle.words.specs.declared.LogMetadata.the-variants.{CrateName, FileName, FilePath, LineNumber, Log, LogLevel, ModulePath, Timestamp}
+use Rattle.words.specs.declared.LogMetadata.the-variants.{CrateName, FileName, FilePath, LineNumber, Log, LogLevel, ModulePath, Timestamp, HeadSerial}
 use Rattle.words.specs.declared.Alignment.{Alignment}
 use Rattle.words.specs.declared.Padding.{Padding}
 use Rattle.words.specs.declared.Width.{Width}
@@ -20,6 +20,7 @@ metadataNumber LogLevel = record { number = 6; count = 0 }
 metadataNumber ModulePath = record { number = 7; count = 0 }
 metadataNumber Timestamp = record { number = 8; count = 0 }
 metadataNumber (FileName n) = record { number = 9; count = n }
+metadataNumber HeadSerial = record { number = 10; count = 0 }
 
 -- a bit for each style
 abbrev pub stylesNumber : Styles → ℕ

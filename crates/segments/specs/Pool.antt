@@ -7,7 +7,7 @@ use mathlib.Core.List.{List, [], _∷_}
 use lib.Dec.{eqb, leb}
 use lib.ListN.{getD, take}
 use Rattle.words.specs.declared.LogMetadata.{LogMetadata}
-use Rattle.words.specs.declared.LogMetadata.the-variants.{CrateName, FileName, FilePath, LineNumber, Log, LogLevel, ModulePath, Timestamp}
+use Rattle.words.specs.declared.LogMetadata.the-variants.{CrateName, FileName, FilePath, LineNumber, Log, LogLevel, ModulePath, Timestamp, HeadSerial}
 use Rattle.words.specs.declared.Color.{Color}
 use Rattle.words.specs.declared.Color.the-variants.{Black, Red, Green, Yellow, Blue, Magenta, Cyan, White, BrightBlack, BrightWhite}
 use Rattle.words.specs.declared.LogColor.{LogColor}
@@ -46,6 +46,7 @@ kinds n =
     ∷ Kind.Specifier ModulePath
     ∷ Kind.Specifier Timestamp
     ∷ Kind.Specifier (FileName (n % 256))
+    ∷ Kind.Specifier HeadSerial
     ∷ []
 
 unfoldable pub kindAt : List ℕ → ℕ → Kind

@@ -2,7 +2,7 @@
 use Prim.Native.Nat.{ℕ}
 use mathlib.Core.Bool.{Bool, true, false, _||_}
 use Rattle.words.specs.declared.LogMetadata.{LogMetadata}
-use Rattle.words.specs.declared.LogMetadata.the-variants.{CrateName, FileName, FilePath, LineNumber, Log, LogLevel, ModulePath, Timestamp}
+use Rattle.words.specs.declared.LogMetadata.the-variants.{CrateName, FileName, FilePath, LineNumber, Log, LogLevel, ModulePath, Timestamp, HeadSerial}
 use Rattle.words.specs.declared.LogFormat.{LogFormat}
 use Rattle.segments.specs.declared.Wanted.{Wanted}
 
@@ -44,6 +44,7 @@ isLog Log = true
 isLog LogLevel = false
 isLog ModulePath = false
 isLog Timestamp = false
+isLog HeadSerial = false
 
 -- `{t}`
 abbrev pub isTimestamp : LogMetadata → Bool
@@ -55,6 +56,7 @@ isTimestamp Log = false
 isTimestamp LogLevel = false
 isTimestamp ModulePath = false
 isTimestamp Timestamp = true
+isTimestamp HeadSerial = false
 
 -- which of the two is looked for
 abbrev pub isWanted : Wanted → LogMetadata → Bool

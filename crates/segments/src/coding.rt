@@ -55,6 +55,10 @@ pub fn metadata_number(m: LogMetadata) -> Coded
             number: 8,
             count: 0,
         },
+        LogMetadata::HeadSerial => Coded {
+            number: 10,
+            count: 0,
+        },
     }
 }
 

@@ -24,7 +24,8 @@ pub fn kind_of(number: usize, count: usize) -> Kind
         7 => Kind::Specifier(LogMetadata::ModulePath),
         8 => Kind::Specifier(LogMetadata::Timestamp),
         9 => Kind::Specifier(LogMetadata::FileName((count % 256) as u8)),
-        10.. => Kind::Text,
+        10 => Kind::Specifier(LogMetadata::HeadSerial),
+        11.. => Kind::Text,
     }
 }
 

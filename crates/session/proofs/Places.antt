@@ -14,6 +14,7 @@ use Rattle.refusals.specs.Numbers.{valueWith}
 use Rattle.segments.specs.Segments.{LogSegments}
 use Rattle.template.specs.declared.Edition.{Edition}
 use Rattle.template.specs.Template.{Template, read, refusal, readBy}
+use Rattle.record.specs.declared.Form.{Form}
 use Rattle.record.specs.Layout.{u32, rightSize, laidOut}
 use Rattle.sheet.specs.Sheets.{Sheet, bodyCount, contentsEnd, bodiesFrom, isSheet, sheetOf, allLaidOut}
 use Rattle.sheet.proofs.Standing.{stands, sheet-some, sheet-none}
@@ -30,7 +31,7 @@ use Rattle.settings.specs.Bits.{isKnown, settingsOf, editionOf}
 use Rattle.outcomes.proofs.Answered.{outcome-most}
 use Rattle.template.proofs.Refusing.{read-short, refused-by, small-value}
 use Rattle.outcomes.specs.Program.{lineRoom, outcomeLine, recordLines, sheetText, maybeSheetText, sessionText, fitting, sessionOutcome, refusalLine, asOutput, output}
-use Rattle.session.specs.Walking.{openedBy, opening, tellOpened, OpenedKeeps, templateIn, recordsFrom, Ready, Lies, walkFrom, walkOn, Standing, outcomeAt, lineAt, linesFrom, linesLeft, allLines}
+use Rattle.session.specs.Walking.{openedBy, opening, tellOpened, OpenedKeeps, settingsIn, formBy, templateIn, recordsFrom, Ready, Lies, walkFrom, walkOn, Standing, outcomeAt, lineAt, linesFrom, linesLeft, allLines}
 
 -- ---- a sheet that is one
 
@@ -44,7 +45,7 @@ pub record Headed (d : List ℕ) : Type 0 where
   pub long : 6 ≤ length d
   pub end : recordsFrom d ≤ length d
   pub byte : contentsEnd d + 1 ≤ recordsFrom d
-  pub settings : isKnown (getD d (contentsEnd d) 0) ≡ true
+  pub settings : isKnown (settingsIn d) ≡ true
   pub short : length d ≤ 65536
 
 pub headed-at : (d : List ℕ) → isSheet d ≡ true → Headed d
@@ -97,7 +98,7 @@ module _ (d : List ℕ) (w : Walk) (more : 0 < w .left) where
     pub next-lies : Lies d (w .i) (w .j)
     next-lies =
         let f = next-fits (w .left) (w .left - 1) d (w .i) (w .j) one-less left in
-        record { length-fits = f .0; body-fits = f .1; size = records-left (w .left) (w .left - 1) d (w .i) (w .j) one-less (at .records) .0 }
+        record { length-fits = f .0; body-fits = f .1; size = records-left (w .left) (w .left - 1) d (w .i) (w .j) one-less (formBy d) (at .records) .0 }
 
     at-next : Standing d (walkOn d w)
     unfolding walkOn
@@ -107,7 +108,7 @@ module _ (d : List ℕ) (w : Walk) (more : 0 < w .left) where
           few = omega (arith, at .few);
           lengths = omega (arith, n .lengths);
           whole = n .whole;
-          records = records-left (w .left) (w .left - 1) d (w .i) (w .j) one-less (at .records) .1;
+          records = records-left (w .left) (w .left - 1) d (w .i) (w .j) one-less (formBy d) (at .records) .1;
         }
 
     pub goes-on : (size : ℕ) → size ≡ u32 d (w .i) → (r : Walk) → r ≡ record { left = w .left - 1; i = w .i + 4; j = w .j + size } → (r ≡ walkOn d w) × Standing d r
@@ -138,9 +139,9 @@ lines-end d s w e = ap (λ (n : ℕ). linesFrom n d s (w .i) (w .j)) e
 -- what the sheet holds
 abbrev sheetIn : List ℕ → Sheet
 sheetIn d = record {
-  settings = getD d (contentsEnd d) 0;
+  settings = settingsIn d;
   template = templateIn d;
-  records = allLaidOut (bodiesFrom (bodyCount d - 1) d 6 (recordsFrom d));
+  records = allLaidOut (formBy d) (bodiesFrom (bodyCount d - 1) d 6 (recordsFrom d));
 }
 
 sheet-in : (d : List ℕ) → isSheet d ≡ true → sheetOf d ≡ some (sheetIn d)
@@ -153,13 +154,13 @@ opening-none d e = ap openedBy (sheet-none d e)
 
 -- its template in the edition that its settings byte asks for
 abbrev pub readIn : List ℕ → Template
-readIn d = readBy (editionOf (getD d (contentsEnd d) 0)) (templateIn d)
+readIn d = readBy (editionOf (settingsIn d)) (templateIn d)
 
 pub opening-some : (d : List ℕ) → isSheet d ≡ true → opening d ≡ readIn d
 unfolding opening openedBy
 opening-some d e = ap openedBy (sheet-in d e)
 
-lines-are : (d : List ℕ) (s : LogSegments) (m i j : ℕ) → recordLines (sheetIn d) s (allLaidOut (bodiesFrom m d i j)) ≡ linesFrom m d s i j
+lines-are : (d : List ℕ) (s : LogSegments) (m i j : ℕ) → recordLines (sheetIn d) s (allLaidOut (formBy d) (bodiesFrom m d i j)) ≡ linesFrom m d s i j
 unfolding recordLines allLaidOut bodiesFrom linesFrom lineAt outcomeAt
 lines-are d s zero i j = refl
 lines-are d s (suc m) i j = ap (λ (l : List ℕ). lineAt d s i j ++ l) (lines-are d s m (i + 4) (j + u32 d i))
@@ -176,7 +177,7 @@ text-refused : (d : List ℕ) (r : Refusal) (b : Bool) → isSheet d ≡ b → o
 unfolding sessionText maybeSheetText sheetText
 text-refused d r true e o =
     let t = sym (opening-some d e) ∙ o in
-    (ap maybeSheetText (sheet-in d e) ∙ ap (sheetText (sheetIn d)) t, small-value _ r (refused-by (editionOf (getD d (contentsEnd d) 0)) (templateIn d) r t))
+    (ap maybeSheetText (sheet-in d e) ∙ ap (sheetText (sheetIn d)) t, small-value _ r (refused-by (editionOf (settingsIn d)) (templateIn d) r t))
 text-refused d r false e o =
     let f : Refusal.NotASheet ≡ r = cc (opening-none d e) in
     let v : valueWith r ≡ 0 = ap valueWith (sym f) in
@@ -184,7 +185,7 @@ text-refused d r false e o =
 
 -- ---- the bodies, as the code has them
 
-module _ (d cells t : List ℕ) (x : Edition) (r : Parsed) (sheet : isSheet d ≡ true) (is-template : t ≡ templateIn d) (is-edition : x ≡ editionOf (getD d (contentsEnd d) 0))
+module _ (d cells t : List ℕ) (x : Edition) (r : Parsed) (sheet : isSheet d ≡ true) (is-template : t ≡ templateIn d) (is-edition : x ≡ editionOf (settingsIn d))
     (told : tellParsed r cells ≡ readBy x t) where
   reads-in : readBy x t ≡ readIn d
   reads-in = λ k. readBy (is-edition k) (is-template k)
@@ -194,26 +195,26 @@ module _ (d cells t : List ℕ) (x : Edition) (r : Parsed) (sheet : isSheet d �
   opens n pool keeps e =
       let p : read (chainAt cells n) ≡ readIn d = ap (λ (x : Parsed). tellParsed x cells) (sym e) ∙ told ∙ reads-in in
       let k : ParsedKeeps cells (Parsed.Read n) = subst (λ (x : Parsed). ParsedKeeps cells x) e keeps in
-      (p ∙ sym (opening-some d sheet), record { sheet = sheet; pool = pool; keeps = k; short = read-short (editionOf (getD d (contentsEnd d) 0)) (templateIn d) (chainAt cells n) (sym p) })
+      (p ∙ sym (opening-some d sheet), record { sheet = sheet; pool = pool; keeps = k; short = read-short (editionOf (settingsIn d)) (templateIn d) (chainAt cells n) (sym p) })
 
   pub refuses : (q : Refusal) → r ≡ Parsed.Refused q → tellOpened (Opened.Refused q) cells ≡ opening d
   unfolding tellOpened tellParsed
   refuses q e = ap (λ (x : Parsed). tellParsed x cells) (sym e) ∙ told ∙ reads-in ∙ sym (opening-some d sheet)
 
-module _ (d : List ℕ) (i j : ℕ) (t x : List ℕ) (is-template : t ≡ templateIn d) (is-record : x ≡ part j (j + u32 d i) d) where
+module _ (d : List ℕ) (i j : ℕ) (form : Form) (t x : List ℕ) (is-form : form ≡ formBy d) (is-template : t ≡ templateIn d) (is-record : x ≡ part j (j + u32 d i) d) where
   pub asked : (cells : List ℕ) (n : ℕ) → Ready d cells n → Lies d i j
-      → (512 ≤ length cells) × (ReadKeeps cells n × ((length t ≤ 1024) × (rightSize x ≡ true)))
+      → (512 ≤ length cells) × (ReadKeeps cells n × ((length t ≤ 1024) × (rightSize form x ≡ true)))
   asked cells n ready there =
-      (ready .pool, (ready .keeps, (subst (λ (y : List ℕ). length y ≤ 1024) (sym is-template) (ready .short), ap rightSize is-record ∙ there .size)))
+      (ready .pool, (ready .keeps, (subst (λ (y : List ℕ). length y ≤ 1024) (sym is-template) (ready .short), (λ k. rightSize (is-form k) (is-record k)) ∙ there .size)))
 
-  pub line-is : (s : LogSegments) (a : Settings) → a ≡ settingsOf (getD d (contentsEnd d) 0)
-      → outcomeLine (recordOutcome a t s (laidOut x) lineRoom) ≡ lineAt d s i j
+  pub line-is : (s : LogSegments) (a : Settings) → a ≡ settingsOf (settingsIn d)
+      → outcomeLine (recordOutcome form a t s (laidOut form x) lineRoom) ≡ lineAt d s i j
   unfolding lineAt outcomeAt
-  line-is s a e = λ k. outcomeLine (recordOutcome (e k) (is-template k) s (laidOut (is-record k)) lineRoom)
+  line-is s a e = λ k. outcomeLine (recordOutcome (is-form k) (e k) (is-template k) s (laidOut (is-form k) (is-record k)) lineRoom)
 
 pub line-most : (d : List ℕ) (s : LogSegments) (i j : ℕ) → length (lineAt d s i j) ≤ 65537
 unfolding lineAt outcomeAt
-line-most d s i j = outcome-most (settingsOf (getD d (contentsEnd d) 0)) (templateIn d) s (laidOut (part j (j + u32 d i) d))
+line-most d s i j = outcome-most (formBy d) (settingsOf (settingsIn d)) (templateIn d) s (laidOut (formBy d) (part j (j + u32 d i) d))
 
 -- what is written after what is written
 pub put-then : (d d′ : List ℕ) (at to : ℕ) (s t : List ℕ) → d′ ≡ putAt d at s → to ≡ at + length s → at + (length s + length t) ≤ length d → putAt d′ to t ≡ putAt d at (s ++ t)

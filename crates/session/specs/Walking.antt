@@ -11,9 +11,10 @@ use Rattle.segments.specs.Segments.{LogSegments}
 use Rattle.segments.specs.Pool.{chainAt}
 use Rattle.template.specs.Template.{Template, read, refusal, readBy}
 use Rattle.template.specs.Parsing.{ReadKeeps}
+use Rattle.record.specs.declared.Form.{Form}
 use Rattle.record.specs.Layout.{u32, rightSize, laidOut}
 use Rattle.answer.specs.Answers.{Outcome, recordOutcome}
-use Rattle.settings.specs.Bits.{settingsOf, editionOf}
+use Rattle.settings.specs.Bits.{settingsOf, editionOf, formOf}
 use Rattle.sheet.specs.Sheets.{Sheet, bodyCount, contentsEnd, bodiesFrom, bodyBytes, areRecords, isSheet, sheetOf}
 use Rattle.session.specs.declared.Opened.{Opened}
 use Rattle.session.specs.declared.walking.Walk.{Walk}
@@ -35,6 +36,14 @@ tellOpened (Opened.Open n) cells = read (chainAt cells n)
 tellOpened (Opened.Refused r) cells = refusal r
 
 -- ---- places of an open sheet
+
+-- the settings byte: the first of body 0
+abbrev pub settingsIn : List ℕ → ℕ
+settingsIn d = getD d (contentsEnd d) 0
+
+-- the form that it says the records have
+abbrev pub formBy : List ℕ → Form
+formBy d = formOf (settingsIn d)
 
 -- the template: body 0 without its settings byte
 unfoldable pub templateIn : List ℕ → List ℕ
@@ -59,7 +68,7 @@ OpenedKeeps d cells (Opened.Refused r) = Unit {0}
 pub record Lies (d : List ℕ) (i j : ℕ) : Type 0 where
   pub length-fits : i + 4 ≤ length d
   pub body-fits : j + u32 d i ≤ length d
-  pub size : rightSize (part j (j + u32 d i) d) ≡ true
+  pub size : rightSize (formBy d) (part j (j + u32 d i) d) ≡ true
 
 -- ---- the walk along the records
 
@@ -76,12 +85,12 @@ pub record Standing (d : List ℕ) (w : Walk) : Type 0 where
   pub few : w .left ≤ 65535
   pub lengths : w .i + 4 * w .left ≤ length d
   pub whole : w .j + bodyBytes (w .left) d (w .i) ≡ length d
-  pub records : areRecords (bodiesFrom (w .left) d (w .i) (w .j)) ≡ true
+  pub records : areRecords (formBy d) (bodiesFrom (w .left) d (w .i) (w .j)) ≡ true
 
 -- ---- what is written
 
 unfoldable pub outcomeAt : List ℕ → LogSegments → ℕ → ℕ → Outcome
-outcomeAt d s i j = recordOutcome (settingsOf (getD d (contentsEnd d) 0)) (templateIn d) s (laidOut (part j (j + u32 d i) d)) lineRoom
+outcomeAt d s i j = recordOutcome (formBy d) (settingsOf (settingsIn d)) (templateIn d) s (laidOut (formBy d) (part j (j + u32 d i) d)) lineRoom
 
 -- the line of one record
 unfoldable pub lineAt : List ℕ → LogSegments → ℕ → ℕ → List ℕ

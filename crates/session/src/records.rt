@@ -4,6 +4,7 @@ use super::bodies::settings_in;
 use super::bodies::template_in;
 use outcomes::outcome_length;
 use outcomes::put_outcome;
+use settings::form_of;
 use settings::settings_of;
 ghost use mathlib.Core.Path.{_≡_};
 ghost use Prim.Native.Nat.{_+_, _≤_};
@@ -17,11 +18,13 @@ pub(crate) fn record_length(d: &[u8], cells: &[usize], n: usize, i: usize, j: us
     requires { ⌜ Ready (now d) (now cells) n × Lies (now d) i j ⌝ }
     ensures { λ r. ⌜ (r ≡ length (lineAt (now (d .entry)) (chainAt (now (cells .entry)) n) i j)) × (r ≤ 65537) ⌝ }
 {
+    let settings = settings_in(d);
     outcome_length(
+        form_of(settings),
         cells,
         n,
         template_in(d),
-        settings_of(settings_in(d)),
+        settings_of(settings),
         record_in(d, i, j),
     )
 }
@@ -40,11 +43,13 @@ pub fn put_record(
     requires { ⌜ at + length (lineAt (now d) (chainAt (now cells) n) i j) ≤ length (now out) ⌝ }
     ensures { λ r. ⌜ Puts (now (out .entry)) (now (out .exit)) at (lineAt (now (d .entry)) (chainAt (now (cells .entry)) n) i j) r ⌝ }
 {
+    let settings = settings_in(d);
     put_outcome(
+        form_of(settings),
         cells,
         n,
         template_in(d),
-        settings_of(settings_in(d)),
+        settings_of(settings),
         record_in(d, i, j),
         out,
         at,

@@ -1,13 +1,14 @@
--- The settings byte (document 01, "Session sheet and its program"; bit 4 of document 02). Assumes nothing.
+-- The settings byte (document 01, "Session sheet and its program"; bits 4 and 8 of document 02). Assumes nothing.
 use Prim.Native.Nat.{ℕ, _/_, _%_}
 use mathlib.Core.Bool.{Bool, true, false}
 use lib.Dec.{eqb, ltb}
 use Rattle.colour.specs.declared.Settings.{Settings}
 use Rattle.template.specs.declared.Edition.{Edition}
+use Rattle.record.specs.declared.Form.{Form}
 
--- "a settings byte (1 colour, 2 straight, others zero)": its known bits; 4 is known, too (document 02, E5). "an unknown settings bit .. is 15"
+-- "a settings byte (1 colour, 2 straight, others zero)": its known bits; 4 and 8 are known, too (document 02, E5 and E7). "an unknown settings bit .. is 15"
 unfoldable pub isKnown : ℕ → Bool
-isKnown b = ltb b 8
+isKnown b = ltb b 16
 
 -- how lines are coloured: 1 and 2
 unfoldable pub settingsOf : ℕ → Settings
@@ -16,3 +17,7 @@ settingsOf b = record { colour = eqb (b % 2) 1; straight = eqb (b / 2 % 2) 1 }
 -- "a second edition of the template rules, chosen by settings bit 4"
 unfoldable pub editionOf : ℕ → Edition
 editionOf b = elim (eqb (b / 4 % 2) 1) [ true ↦ Edition.Strict | false ↦ Edition.First ]
+
+-- "Old sheets are told apart by settings bit 8": the form of a record, in a sheet and in a line call
+unfoldable pub formOf : ℕ → Form
+formOf b = elim (eqb (b / 8 % 2) 1) [ true ↦ Form.New | false ↦ Form.Old ]

@@ -1,6 +1,6 @@
 -- Scaffolding, for proofs alone: what the definitions of this layer compute by, in one name: `unfolding computes` opens them all. Assumes nothing.
-use Rattle.settings.specs.Bits.{isKnown, settingsOf, editionOf}
+use Rattle.settings.specs.Bits.{isKnown, settingsOf, editionOf, formOf}
 
 unfoldable pub computes : Unit {0}
-unfolding isKnown settingsOf editionOf
+unfolding isKnown settingsOf editionOf formOf
 computes = tt

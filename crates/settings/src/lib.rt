@@ -1,14 +1,15 @@
 // The settings byte.
 use colour::Settings;
+use record::Form;
 use template::Edition;
 ghost use mathlib.Core.Path.{_≡_};
-ghost use Rattle.settings.specs.Bits.{isKnown, settingsOf, editionOf};
+ghost use Rattle.settings.specs.Bits.{isKnown, settingsOf, editionOf, formOf};
 
 // Whether all bits of the byte are known.
 pub fn is_known(b: u8) -> bool
     ensures { λ r. ⌜ r ≡ isKnown b ⌝ }
 {
-    b < 8
+    b < 16
 }
 
 // How the byte's bits have lines coloured.
@@ -29,4 +30,14 @@ pub fn edition_of(b: u8) -> Edition
         return Edition::Strict;
     }
     Edition::First
+}
+
+// The form that the byte's bits say records are laid out in.
+pub fn form_of(b: u8) -> Form
+    ensures { λ r. ⌜ r ≡ formOf b ⌝ }
+{
+    if b / 8 % 2 == 1 {
+        return Form::New;
+    }
+    Form::Old
 }

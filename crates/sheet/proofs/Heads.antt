@@ -7,9 +7,10 @@ use native.Mathlib.Omega.{arith}
 use lib.ListN.{length, getD}
 use Rattle.buffer.specs.Bytes.{part}
 use Rattle.buffer.proofs.Parts.{part-step, part-length}
+use Rattle.record.specs.declared.Form.{Form}
 use Rattle.record.specs.Layout.{u32}
-use Rattle.settings.specs.Bits.{isKnown}
-use Rattle.sheet.specs.Sheets.{bodyCount, contentsEnd, bodiesFrom, bodies, isHead, areRecords, areBodies, isSheet, allLaidOut, headed, held}
+use Rattle.settings.specs.Bits.{isKnown, formOf}
+use Rattle.sheet.specs.Sheets.{bodyCount, contentsEnd, bodiesFrom, bodies, isHead, formIn, areRecords, areBodies, isSheet, allLaidOut, headed, held}
 use Rattle.sheet.proofs.Standing.{both-true, stands}
 use Rattle.sheet.proofs.Walk.{Left, all-left, bodies-next, next-fits, next-left}
 
@@ -33,9 +34,25 @@ unfolding isHead
 is-head [] e = absurd (false-true e)
 is-head (x ∷ b) e = (omega arith, e)
 
+-- of a body at place j, k bytes long
+module _ (d : List ℕ) (j k : ℕ) (fits : j + k ≤ length d) where
+  pub has-byte : isHead (part j (j + k) d) ≡ true → 0 < k
+  has-byte e = omega (arith, is-head (part j (j + k) d) e .0, part-length d j (j + k) (omega arith) fits)
+
+  first-of : 0 < k → part j (j + k) d ≡ getD d j 0 ∷ part (j + 1) (j + k) d
+  first-of h = part-step d j (j + k) (omega (arith, h)) fits
+
+  -- what its first byte says of the records
+  pub head-form : 0 < k → formIn (part j (j + k) d) ≡ formOf (getD d j 0)
+  unfolding formIn
+  head-form h = ap formIn (first-of h)
+
+  head-byte : 0 < k → getD (part j (j + k) d) 0 0 ≡ getD d j 0
+  head-byte h = ap (λ (x : List ℕ). getD x 0 0) (first-of h)
+
 -- the settings are its first byte, the template is the rest
 pub headed-body : (d : List ℕ) (j e : ℕ) (records : List (List ℕ)) → j < e → e ≤ length d
-    → headed (part j e d) records ≡ record { settings = getD d j 0; template = part (j + 1) e d; records = allLaidOut records }
+    → headed (part j e d) records ≡ record { settings = getD d j 0; template = part (j + 1) e d; records = allLaidOut (formOf (getD d j 0)) records }
 unfolding headed
 headed-body d j e records h g = ap (λ (b : List ℕ). headed b records) (part-step d j e h g)
 
@@ -43,7 +60,7 @@ headed-body d j e records h g = ap (λ (b : List ℕ). headed b records) (part-s
 
 -- whether the bodies are body 0 and records
 pub bodies-split : (d : List ℕ) (n : ℕ) → bodyCount d ≡ suc n
-    → areBodies (bodies d) ≡ (isHead (part (contentsEnd d) (contentsEnd d + u32 d 2) d) && areRecords (bodiesFrom n d 6 (contentsEnd d + u32 d 2)))
+    → areBodies (bodies d) ≡ (isHead (part (contentsEnd d) (contentsEnd d + u32 d 2) d) && areRecords (formIn (part (contentsEnd d) (contentsEnd d + u32 d 2) d)) (bodiesFrom n d 6 (contentsEnd d + u32 d 2)))
 unfolding areBodies bodies
 bodies-split d n e = ap areBodies (bodies-next (bodyCount d) n d 2 (contentsEnd d) e)
 
@@ -53,29 +70,30 @@ pub record Head (d : List ℕ) (n : ℕ) : Type 0 where
   pub byte : 0 < u32 d 2
   pub settings : isKnown (getD d (contentsEnd d) 0) ≡ true
   pub left : Left n d 6 (contentsEnd d + u32 d 2)
-  pub records : areRecords (bodiesFrom n d 6 (contentsEnd d + u32 d 2)) ≡ true
+  pub records : areRecords (formOf (getD d (contentsEnd d) 0)) (bodiesFrom n d 6 (contentsEnd d + u32 d 2)) ≡ true
 
 module _ (d : List ℕ) (n : ℕ) (one-more : bodyCount d ≡ suc n) (sheet : isSheet d ≡ true) where
   pub head-of : Head d n
   head-of =
       let j = contentsEnd d in
       let f = next-fits (bodyCount d) n d 2 j one-more (all-left d sheet) in
-      let t = both-true (isHead (part j (j + u32 d 2) d)) (areRecords (bodiesFrom n d 6 (j + u32 d 2))) (sym (bodies-split d n one-more) ∙ stands d sheet .right) in
-      let h = is-head (part j (j + u32 d 2) d) (t .0) in
-      let b : 0 < u32 d 2 = omega (arith, h .0, part-length d j (j + u32 d 2) (omega arith) (f .1)) in
-      let e : getD (part j (j + u32 d 2) d) 0 0 ≡ getD d j 0 = ap (λ (x : List ℕ). getD x 0 0) (part-step d j (j + u32 d 2) (omega (arith, b)) (f .1)) in
+      let k = u32 d 2 in
+      let body = part j (j + k) d in
+      let records = bodiesFrom n d 6 (j + k) in
+      let t = both-true (isHead body) (areRecords (formIn body) records) (sym (bodies-split d n one-more) ∙ stands d sheet .right) in
+      let b = has-byte d j k (f .1) (t .0) in
       record {
         room = f;
         byte = b;
-        settings = ap isKnown (sym e) ∙ h .1;
+        settings = ap isKnown (sym (head-byte d j k (f .1) b)) ∙ is-head body (t .0) .1;
         left = next-left (bodyCount d) n d 2 j one-more (all-left d sheet);
-        records = t .1;
+        records = ap (λ (form : Form). areRecords form records) (sym (head-form d j k (f .1) b)) ∙ t .1;
       }
 
   pub sheet-held : held (bodies d) ≡ record {
     settings = getD d (contentsEnd d) 0;
     template = part (contentsEnd d + 1) (contentsEnd d + u32 d 2) d;
-    records = allLaidOut (bodiesFrom n d 6 (contentsEnd d + u32 d 2));
+    records = allLaidOut (formOf (getD d (contentsEnd d) 0)) (bodiesFrom n d 6 (contentsEnd d + u32 d 2));
   }
   unfolding held bodies
   sheet-held =

@@ -7,7 +7,7 @@ use native.Mathlib.Omega.{arith}
 use lib.ListN.{length}
 use Rattle.buffer.specs.Bytes.{part}
 use Rattle.record.specs.Layout.{u32}
-use Rattle.sheet.specs.Sheets.{bodyCount, contentsEnd, bodyBytes, bodiesFrom, isHead, areRecords, isSheet}
+use Rattle.sheet.specs.Sheets.{bodyCount, contentsEnd, bodyBytes, bodiesFrom, isHead, formIn, areRecords, isSheet}
 use Rattle.sheet.proofs.Standing.{contents-end, by-bodies}
 use Rattle.sheet.proofs.Walk.{Left, next-fits, next-left}
 use Rattle.sheet.proofs.Heads.{bodies-split}
@@ -36,11 +36,11 @@ module _ (d : List ℕ) (n k : ℕ) (r : Read d n k) where
       subst (λ (x : ℕ). Left (n - 1) d 6 (2 + 4 * n + x)) (sym (r .first)) (next-left n (n - 1) d 2 (2 + 4 * n) one-more read-left)
 
   -- what is left to see: that body 0 can be one, and that the others are records
-  pub left-to-see : isSheet d ≡ (isHead (part (2 + 4 * n) (2 + 4 * n + k) d) && areRecords (bodiesFrom (n - 1) d 6 (2 + 4 * n + k)))
+  pub left-to-see : isSheet d ≡ (isHead (part (2 + 4 * n) (2 + 4 * n + k) d) && areRecords (formIn (part (2 + 4 * n) (2 + 4 * n + k) d)) (bodiesFrom (n - 1) d 6 (2 + 4 * n + k)))
   left-to-see =
       let from : contentsEnd d ≡ 2 + 4 * n = omega (arith, contents-end d, r .count) in
       let all : bodyBytes n d 2 ≡ bodyBytes (bodyCount d) d 2 = ap (λ (x : ℕ). bodyBytes x d 2) (r .count) in
       by-bodies d (r .short) (omega (arith, r .contents)) (omega (arith, r .count, r .some-body)) (omega (arith, r .contents, from)) (omega (arith, r .whole, all, from))
       ∙ bodies-split d (n - 1) (omega (arith, r .count, one-more))
-      ∙ ap (λ (j : ℕ). isHead (part j (j + u32 d 2) d) && areRecords (bodiesFrom (n - 1) d 6 (j + u32 d 2))) from
-      ∙ ap (λ (x : ℕ). isHead (part (2 + 4 * n) (2 + 4 * n + x) d) && areRecords (bodiesFrom (n - 1) d 6 (2 + 4 * n + x))) (sym (r .first))
+      ∙ ap (λ (j : ℕ). isHead (part j (j + u32 d 2) d) && areRecords (formIn (part j (j + u32 d 2) d)) (bodiesFrom (n - 1) d 6 (j + u32 d 2))) from
+      ∙ ap (λ (x : ℕ). isHead (part (2 + 4 * n) (2 + 4 * n + x) d) && areRecords (formIn (part (2 + 4 * n) (2 + 4 * n + x) d)) (bodiesFrom (n - 1) d 6 (2 + 4 * n + x))) (sym (r .first))

@@ -7,6 +7,7 @@ use Prim.Native.Nat.{ℕ, suc, _+_, _*_, _≤_}
 use native.Mathlib.Omega.{arith}
 use lib.ListN.{length}
 use Rattle.buffer.specs.Bytes.{part}
+use Rattle.record.specs.declared.Form.{Form}
 use Rattle.record.specs.Layout.{u32, rightSize, laidOut}
 use Rattle.sheet.specs.Sheets.{bodyCount, contentsEnd, bodyBytes, bodiesFrom, areRecords, isSheet, allLaidOut}
 use Rattle.sheet.proofs.Standing.{both-true, stands, contents-end}
@@ -39,25 +40,26 @@ module _ (m n : ℕ) (d : List ℕ) (i j : ℕ) (one-more : m ≡ suc n) where
   pub next-left : Left m d i j → Left n d (i + 4) (j + u32 d i)
   next-left l = record { lengths = omega (arith, l .lengths, one-more); whole = omega (arith, l .whole, bytes-next) }
 
-  -- whether they are records: the next, then the others
-  pub records-next : areRecords (bodiesFrom m d i j) ≡ (rightSize (part j (j + u32 d i) d) && areRecords (bodiesFrom n d (i + 4) (j + u32 d i)))
-  unfolding areRecords
-  records-next = ap areRecords bodies-next
+  module _ (form : Form) where
+    -- whether they are records: the next, then the others
+    pub records-next : areRecords form (bodiesFrom m d i j) ≡ (rightSize form (part j (j + u32 d i) d) && areRecords form (bodiesFrom n d (i + 4) (j + u32 d i)))
+    unfolding areRecords
+    records-next = ap (areRecords form) bodies-next
 
-  pub records-go-on : rightSize (part j (j + u32 d i) d) ≡ true → areRecords (bodiesFrom m d i j) ≡ areRecords (bodiesFrom n d (i + 4) (j + u32 d i))
-  records-go-on e = records-next ∙ ap (λ (t : Bool). t && areRecords (bodiesFrom n d (i + 4) (j + u32 d i))) e
+    pub records-go-on : rightSize form (part j (j + u32 d i) d) ≡ true → areRecords form (bodiesFrom m d i j) ≡ areRecords form (bodiesFrom n d (i + 4) (j + u32 d i))
+    records-go-on e = records-next ∙ ap (λ (t : Bool). t && areRecords form (bodiesFrom n d (i + 4) (j + u32 d i))) e
 
-  pub records-stop : rightSize (part j (j + u32 d i) d) ≡ false → areRecords (bodiesFrom m d i j) ≡ false
-  records-stop e = records-next ∙ ap (λ (t : Bool). t && areRecords (bodiesFrom n d (i + 4) (j + u32 d i))) e
+    pub records-stop : rightSize form (part j (j + u32 d i) d) ≡ false → areRecords form (bodiesFrom m d i j) ≡ false
+    records-stop e = records-next ∙ ap (λ (t : Bool). t && areRecords form (bodiesFrom n d (i + 4) (j + u32 d i))) e
 
-  pub records-left : areRecords (bodiesFrom m d i j) ≡ true
-      → (rightSize (part j (j + u32 d i) d) ≡ true) × (areRecords (bodiesFrom n d (i + 4) (j + u32 d i)) ≡ true)
-  records-left e =
-      both-true (rightSize (part j (j + u32 d i) d)) (areRecords (bodiesFrom n d (i + 4) (j + u32 d i))) (sym records-next ∙ e)
+    pub records-left : areRecords form (bodiesFrom m d i j) ≡ true
+        → (rightSize form (part j (j + u32 d i) d) ≡ true) × (areRecords form (bodiesFrom n d (i + 4) (j + u32 d i)) ≡ true)
+    records-left e =
+        both-true (rightSize form (part j (j + u32 d i) d)) (areRecords form (bodiesFrom n d (i + 4) (j + u32 d i))) (sym records-next ∙ e)
 
-  pub laid-next : allLaidOut (bodiesFrom m d i j) ≡ laidOut (part j (j + u32 d i) d) ∷ allLaidOut (bodiesFrom n d (i + 4) (j + u32 d i))
-  unfolding allLaidOut
-  laid-next = ap allLaidOut bodies-next
+    pub laid-next : allLaidOut form (bodiesFrom m d i j) ≡ laidOut form (part j (j + u32 d i) d) ∷ allLaidOut form (bodiesFrom n d (i + 4) (j + u32 d i))
+    unfolding allLaidOut
+    laid-next = ap (allLaidOut form) bodies-next
 
 -- after the last body
 module _ (m : ℕ) (d : List ℕ) (i j : ℕ) (no-more : m ≡ 0) where
@@ -69,10 +71,11 @@ module _ (m : ℕ) (d : List ℕ) (i j : ℕ) (no-more : m ≡ 0) where
   unfolding bodiesFrom
   bodies-end = ap (λ (k : ℕ). bodiesFrom k d i j) no-more
 
-  pub records-end : areRecords (bodiesFrom m d i j) ≡ true
-  unfolding areRecords
-  records-end = ap areRecords bodies-end
+  module _ (form : Form) where
+    pub records-end : areRecords form (bodiesFrom m d i j) ≡ true
+    unfolding areRecords
+    records-end = ap (areRecords form) bodies-end
 
-  pub laid-end : allLaidOut (bodiesFrom m d i j) ≡ []
-  unfolding allLaidOut
-  laid-end = ap allLaidOut bodies-end
+    pub laid-end : allLaidOut form (bodiesFrom m d i j) ≡ []
+    unfolding allLaidOut
+    laid-end = ap (allLaidOut form) bodies-end

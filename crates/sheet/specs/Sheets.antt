@@ -6,7 +6,8 @@ use lib.Dec.{eqb, leb}
 use lib.ListN.{length}
 use Rattle.buffer.specs.Bytes.{part}
 use Rattle.buffer.specs.Table.{Maybe, none, some}
-use Rattle.settings.specs.Bits.{isKnown}
+use Rattle.settings.specs.Bits.{isKnown, formOf}
+use Rattle.record.specs.declared.Form.{Form}
 use Rattle.record.specs.Layout.{u16, u32, rightSize, Laid, laidOut}
 
 -- ---- the bodies of a sheet
@@ -40,15 +41,20 @@ unfoldable pub isHead : List ℕ → Bool
 isHead [] = false
 isHead (settings ∷ template) = isKnown settings
 
+-- "Old sheets are told apart by settings bit 8": the form that body 0 says the records have; one without a byte says none, and is no body 0
+unfoldable pub formIn : List ℕ → Form
+formIn [] = Form.Old
+formIn (settings ∷ template) = formOf settings
+
 -- "or a record of the wrong size is 15"
-unfoldable pub areRecords : List (List ℕ) → Bool
-areRecords [] = true
-areRecords (body ∷ rest) = rightSize body && areRecords rest
+unfoldable pub areRecords : Form → List (List ℕ) → Bool
+areRecords form [] = true
+areRecords form (body ∷ rest) = rightSize form body && areRecords form rest
 
 -- body 0, and records
 unfoldable pub areBodies : List (List ℕ) → Bool
 areBodies [] = false
-areBodies (head ∷ records) = isHead head && areRecords records
+areBodies (head ∷ records) = isHead head && areRecords (formIn head) records
 
 -- refusal 15: "sheet over 65,536 bytes, or not laid out exactly as the sheet section says"
 unfoldable pub isSheet : List ℕ → Bool
@@ -69,14 +75,14 @@ pub record Sheet : Type 0 where
   pub records : List Laid
 
 -- the records that bodies lay out
-unfoldable pub allLaidOut : List (List ℕ) → List Laid
-allLaidOut [] = []
-allLaidOut (body ∷ rest) = laidOut body ∷ allLaidOut rest
+unfoldable pub allLaidOut : Form → List (List ℕ) → List Laid
+allLaidOut form [] = []
+allLaidOut form (body ∷ rest) = laidOut form body ∷ allLaidOut form rest
 
 -- a sheet by its body 0 and its other bodies
 unfoldable pub headed : List ℕ → List (List ℕ) → Sheet
-headed [] records = record { settings = 0; template = []; records = allLaidOut records }
-headed (settings ∷ template) records = record { settings = settings; template = template; records = allLaidOut records }
+headed [] records = record { settings = 0; template = []; records = allLaidOut Form.Old records }
+headed (settings ∷ template) records = record { settings = settings; template = template; records = allLaidOut (formOf settings) records }
 
 -- a sheet by its bodies
 unfoldable pub held : List (List ℕ) → Sheet

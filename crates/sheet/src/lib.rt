@@ -1,7 +1,9 @@
 // The session sheet: what is laid out as one, and its bodies.
+use record::Form;
 use record::layout::right_size;
 use record::numbers::u16_at;
 use record::numbers::u32_at;
+use settings::form_of;
 use settings::is_known;
 ghost use mathlib.Core.Path.{_≡_};
 ghost use Prim.Native.Nat.{_+_, _*_, _≤_, _<_, _^_};
@@ -33,7 +35,7 @@ pub fn is_sheet(d: &[u8]) -> bool
     }
     let to = from + body_length(d, 2);
     if is_head(&d[from..to]) {
-        return are_records(d, n - 1, 6, to);
+        return are_records(form_of(d[from]), d, n - 1, 6, to);
     }
     false
 }
@@ -81,16 +83,16 @@ fn is_head(body: &[u8]) -> bool
 }
 
 // Whether n bodies are records of the right size: their lengths stand from the place `contents` on, they from the place `from` on.
-fn are_records(d: &[u8], n: usize, contents: usize, from: usize) -> bool
+fn are_records(form: Form, d: &[u8], n: usize, contents: usize, from: usize) -> bool
     requires { ⌜ (contents + 4 * n ≤ length (now d)) × (from + bodyBytes n (now d) contents ≡ length (now d)) ⌝ }
-    ensures { λ r. ⌜ r ≡ areRecords (bodiesFrom n (now (d .entry)) contents from) ⌝ }
+    ensures { λ r. ⌜ r ≡ areRecords form (bodiesFrom n (now (d .entry)) contents from) ⌝ }
 {
     let mut left = n;
     let mut i = contents;
     let mut j = from;
     while 0 < left {
         let end = j + body_length(d, i);
-        if right_size(&d[j..end]) {
+        if right_size(form, &d[j..end]) {
             left -= 1;
             i += 4;
             j = end;

@@ -12,7 +12,7 @@ ghost use Rattle.measure.specs.Measures.{grown, Small};
 ghost use Rattle.wording.specs.Table.{Stands};
 
 // The texts one after another, as they have different lengths.
-const TEXTS: [u8; 52] = *b"<crate><file><mod path><time>ERRORWARNINFODEBUGTRACE";
+const TEXTS: [u8; 58] = *b"<crate><file><mod path><time>ERRORWARNINFODEBUGTRACE<head>";
 
 // Where one of them stands.
 pub struct Place {
@@ -29,6 +29,7 @@ fn place_of(x: Fixed) -> Place
         Fixed::File => Place { from: 7, to: 13 },
         Fixed::ModulePath => Place { from: 13, to: 23 },
         Fixed::Time => Place { from: 23, to: 29 },
+        Fixed::Head => Place { from: 52, to: 58 },
         Fixed::Error => Place { from: 29, to: 34 },
         Fixed::Warn => Place { from: 34, to: 38 },
         Fixed::Info => Place { from: 38, to: 42 },

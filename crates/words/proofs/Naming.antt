@@ -65,6 +65,7 @@ module _ (w : List ℕ) (n : ℕ) (l : length w ≡ n) (h : n ≡ 1 → ⊥) whe
       ∙ lookup-on _ _ w (same-lengths _ w no)
       ∙ lookup-on _ _ w (same-lengths _ w no)
       ∙ lookup-on _ _ w (same-lengths _ w no)
+      ∙ lookup-on _ _ w (same-lengths _ w no)
       ∙ lookup-none w
 
   longer : specifierOf w ≡ repeatedF w
@@ -109,10 +110,10 @@ pub one-other : (a b : ℕ) → (b ≡ a → ⊥) → same (a ∷ []) (b ∷ [])
 unfolding same
 one-other a b h = rw (ne-eqb a b (λ q. h (sym q)), same)
 
-pub letter-misfit : (j b : ℕ) → (b ≡ 0x63 → ⊥) → (b ≡ 0x66 → ⊥) → (b ≡ 0x46 → ⊥) → (b ≡ 0x6C → ⊥) → (b ≡ 0x73 → ⊥) → (b ≡ 0x4C → ⊥) → (b ≡ 0x6D → ⊥) → (b ≡ 0x74 → ⊥)
+pub letter-misfit : (j b : ℕ) → (b ≡ 0x63 → ⊥) → (b ≡ 0x66 → ⊥) → (b ≡ 0x46 → ⊥) → (b ≡ 0x6C → ⊥) → (b ≡ 0x73 → ⊥) → (b ≡ 0x4C → ⊥) → (b ≡ 0x6D → ⊥) → (b ≡ 0x74 → ⊥) → (b ≡ 0x64 → ⊥)
     → sensed j (specifierOf (b ∷ [])) ≡ misfit
 unfolding specifierOf orRepeatedF repeatedF sensed
-letter-misfit j b c f F l s L m t =
+letter-misfit j b c f F l s L m t d =
     ap (λ (x : Maybe LogMetadata). sensed j (orRepeatedF (b ∷ []) x))
     (lookup-on _ _ _ (one-other 0x63 b c)
     ∙ lookup-on _ _ _ (one-other 0x46 b F)
@@ -121,5 +122,6 @@ letter-misfit j b c f F l s L m t =
     ∙ lookup-on _ _ _ (one-other 0x4C b L)
     ∙ lookup-on _ _ _ (one-other 0x6D b m)
     ∙ lookup-on _ _ _ (one-other 0x74 b t)
+    ∙ lookup-on _ _ _ (one-other 0x64 b d)
     ∙ lookup-none _)
     ∙ rw (one-other 0x66 b f, repeatedF)

@@ -1,7 +1,7 @@
 -- Scaffolding, for proofs alone: what the code's answers about words say, where what fits ends, and the bounds of the numbers in it. Assumes nothing.
 use Prim.Native.Nat.{ℕ, _+_, _≤_}
 use Rattle.words.specs.declared.LogMetadata.{LogMetadata}
-use Rattle.words.specs.declared.LogMetadata.the-variants.{CrateName, FileName, FilePath, LineNumber, Log, LogLevel, ModulePath, Timestamp}
+use Rattle.words.specs.declared.LogMetadata.the-variants.{CrateName, FileName, FilePath, LineNumber, Log, LogLevel, ModulePath, Timestamp, HeadSerial}
 use Rattle.words.specs.declared.Parameter.{Parameter}
 use Rattle.words.specs.declared.MetadataRead.{MetadataRead}
 use Rattle.words.specs.declared.FormatRead.{FormatRead}
@@ -28,6 +28,7 @@ Named Log = Unit {0}
 Named LogLevel = Unit {0}
 Named ModulePath = Unit {0}
 Named Timestamp = Unit {0}
+Named HeadSerial = Unit {0}
 
 -- a width is 512 at most
 abbrev pub Wide : Parameter → Type 0

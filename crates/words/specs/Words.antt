@@ -9,7 +9,7 @@ use Rattle.buffer.specs.Bytes.{byte, bytes, part, same}
 use Rattle.buffer.specs.Table.{Maybe, none, some, Entry, _means_, lookup}
 use Rattle.refusals.specs.declared.Refusal.{Refusal}
 use Rattle.words.specs.declared.LogMetadata.{LogMetadata}
-use Rattle.words.specs.declared.LogMetadata.the-variants.{CrateName, FileName, FilePath, LineNumber, Log, LogLevel, ModulePath, Timestamp}
+use Rattle.words.specs.declared.LogMetadata.the-variants.{CrateName, FileName, FilePath, LineNumber, Log, LogLevel, ModulePath, Timestamp, HeadSerial}
 use Rattle.words.specs.declared.Color.{Color}
 use Rattle.words.specs.declared.Color.the-variants.{Black, Red, Green, Yellow, Blue, Magenta, Cyan, White}
 use Rattle.words.specs.declared.LogColor.{LogColor}
@@ -36,7 +36,7 @@ unfoldable pub sense : {A : Type 0} → Maybe A → Sense A
 sense none = nothing
 sense (some a) = stands-for a
 
--- "Specifiers: `c F l s L m t`, or `f` repeated"
+-- "Specifiers: `c F l s L m t`, or `f` repeated"; and, of document 02, E7: "the head's serial .. shown by `{d}`"
 abbrev pub specifiers : List (Entry LogMetadata)
 specifiers =
     "c" means CrateName
@@ -46,6 +46,7 @@ specifiers =
     ∷ "L" means LogLevel
     ∷ "m" means ModulePath
     ∷ "t" means Timestamp
+    ∷ "d" means HeadSerial
     ∷ []
 
 -- `f` repeated; refusal 8: "a specifier name of more than 255 `f`"

@@ -13,6 +13,7 @@ pub enum LogMetadata {
     LogLevel,
     ModulePath,
     Timestamp,
+    HeadSerial,
 }
 
 // The foreground colours that a line can hold. No word asks for the last two: they are the colours of levels.

@@ -53,6 +53,7 @@ fn letter_metadata(t: &[u8], from: usize) -> MetadataRead
         b'L' => MetadataRead::Fit(from + 1, LogMetadata::LogLevel),
         b'm' => MetadataRead::Fit(from + 1, LogMetadata::ModulePath),
         b't' => MetadataRead::Fit(from + 1, LogMetadata::Timestamp),
+        b'd' => MetadataRead::Fit(from + 1, LogMetadata::HeadSerial),
         _ => MetadataRead::Misfit,
     }
 }

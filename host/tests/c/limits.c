@@ -80,7 +80,7 @@ static void builtins(void)
 static uint64_t line_of(const char *template_, uint8_t settings, const struct pralakuon_record *record, uint8_t *out)
 {
     static uint8_t laid_out[PRALAKUON_RECORD_ROOM];
-    size_t size = pralakuon_record_put(record, laid_out, sizeof laid_out);
+    size_t size = pralakuon_record_put(record, settings, laid_out, sizeof laid_out);
 
     memset(out, PAINT, PRALAKUON_RECORD_ROOM);
     return pralakuon_line((const uint8_t *)template_, strlen(template_), settings, laid_out, size, out,
@@ -152,7 +152,32 @@ static void settings(void)
     CHECK(is_line(line_of(template_, PRALAKUON_COLOUR | PRALAKUON_STRAIGHT, &record, out), out,
                   "\033[1m[\033[31mERROR\033[0m\033[1m]  \033[0m|"));
     CHECK(is_line(line_of(template_, PRALAKUON_STRICT, &record, out), out, "[ERROR]  |"));
-    CHECK(line_of(template_, 2 * PRALAKUON_STRICT, &record, out) == PRALAKUON_NOT_A_SHEET);
+    CHECK(is_line(line_of(template_, PRALAKUON_HEADS, &record, out), out, "[ERROR]  |"));
+    CHECK(line_of(template_, 2 * PRALAKUON_HEADS, &record, out) == PRALAKUON_NOT_A_SHEET);
+}
+
+/* A record's serial: shown, absent, empty, at its limit; by settings that know no head it is refused. */
+static void heads(void)
+{
+    static uint8_t out[PRALAKUON_RECORD_ROOM], serial[PRALAKUON_SERIAL_BYTES_MAX + 1];
+    struct pralakuon_record record;
+
+    memset(&record, 0, sizeof record);
+    record.level = PRALAKUON_LEVEL_INFO;
+    record.message = pralakuon_text_of("m");
+    CHECK(is_line(line_of("{d} {s}", PRALAKUON_PLAIN, &record, out), out, "<head> m"));
+    CHECK(is_line(line_of("{d} {s}", PRALAKUON_HEADS, &record, out), out, "<head> m"));
+    record.head = pralakuon_text_of("");
+    CHECK(is_line(line_of("{d} {s}", PRALAKUON_HEADS, &record, out), out, " m"));
+    record.head = pralakuon_text_of("H-07");
+    CHECK(is_line(line_of("{d:>6} {s}", PRALAKUON_HEADS, &record, out), out, "  H-07 m"));
+    CHECK(line_of("{s}", PRALAKUON_PLAIN, &record, out) == PRALAKUON_NOT_A_RECORD);
+    memset(serial, 'x', sizeof serial);
+    record.head.bytes = serial;
+    record.head.length = PRALAKUON_SERIAL_BYTES_MAX;
+    CHECK(is_line(line_of("{s}", PRALAKUON_HEADS, &record, out), out, "m"));
+    record.head.length = PRALAKUON_SERIAL_BYTES_MAX + 1;
+    CHECK(line_of("{s}", PRALAKUON_HEADS, &record, out) == PRALAKUON_FIELD_TOO_LONG);
 }
 
 static uint64_t timestamp_by(const char *template_, uint8_t settings)
@@ -183,7 +208,7 @@ static void strict(void)
     for (settings = 0; settings < 256; settings++) {
         const uint8_t byte = (uint8_t)settings;
         const int strictly = (settings & PRALAKUON_STRICT) != 0;
-        const uint64_t refusal = settings >= 8 ? (uint64_t)PRALAKUON_NOT_A_SHEET : strictly ? dropped : 0;
+        const uint64_t refusal = settings >= 16 ? (uint64_t)PRALAKUON_NOT_A_SHEET : strictly ? dropped : 0;
 
         CHECK(check_by(template_, byte) == refusal);
         CHECK(timestamp_by(template_, byte) == refusal);
@@ -279,6 +304,7 @@ int main(void)
     levels();
     sources();
     settings();
+    heads();
     strict();
     sessions();
     visible();

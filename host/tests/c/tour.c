@@ -71,7 +71,7 @@ static void show_line(const char *template_, uint8_t settings, const struct pral
 {
     static uint8_t laid_out[PRALAKUON_RECORD_ROOM];
     uint8_t out[256];
-    size_t size = pralakuon_record_put(record, laid_out, sizeof laid_out);
+    size_t size = pralakuon_record_put(record, settings, laid_out, sizeof laid_out);
 
     memset(out, PAINT, sizeof out);
     uint64_t answer =
@@ -137,6 +137,12 @@ int main(void)
         {.message = pralakuon_text_of("boot")},
         {.source = PRALAKUON_SOURCE_HOST}, /* a host's record without level, which is refused */
     };
+    /* Which head measured it. */
+    const struct pralakuon_record headed = {
+        .level = PRALAKUON_LEVEL_INFO,
+        .message = pralakuon_text_of("hello"),
+        .head = pralakuon_text_of("H-07"),
+    };
 
     show_version();
     show_template("[{L}] {s}", PRALAKUON_PLAIN);
@@ -149,6 +155,9 @@ int main(void)
     show_line("[{L}] {f}:{l:1} {s}", PRALAKUON_PLAIN, &records[0], 26);
     show_line("[{L}] {f}:{l:1} {s}", PRALAKUON_PLAIN, &records[0], 25);
     show_line("[{L}] {f}:{l:1} {s}", PRALAKUON_PLAIN, &records[2], 25);
+    show_line("{d:>6} {s}", PRALAKUON_HEADS, &headed, 12);
+    show_line("{d:>6} {s}", PRALAKUON_HEADS, &records[0], 12);
+    show_line("{d:>6} {s}", PRALAKUON_PLAIN, &headed, 12); /* these settings know no head */
     show_visible("\033[1m[\033[31mERROR\033[0m\033[1m]  \033[0m|hello");
     show_sheet(records, 3, 512);
     show_sheet(records, 3, 81);

@@ -1,7 +1,9 @@
 //! What several tests need.
 #![allow(dead_code)] // Each test file is a crate of its own and takes what it needs.
 
-use pralakuon::{line, session, RawRecord, Refusal, Settings};
+use pralakuon::{line, session, RawRecord, Refusal, Settings, Sheet, SheetWriter};
+use std::fs;
+use std::path::Path;
 
 /// What lent memory holds before a call.
 pub const PAINT: u8 = 0xa5;
@@ -24,8 +26,19 @@ pub fn hello() -> RawRecord<'static> {
 
 /// The body of a device's INFO record, laid out by hand.
 pub fn hand_laid(message: &[u8]) -> Vec<u8> {
+    [&hand_laid_lengths(message, 0)[..], message].concat()
+}
+
+/// The same with a head: 17 bytes of numbers, and the serial behind the message.
+pub fn hand_laid_with_head(message: &[u8], mask: u8, serial: &[u8]) -> Vec<u8> {
+    let length = (serial.len() as u16).to_le_bytes();
+    [&hand_laid_lengths(message, mask)[..], &length, message, serial].concat()
+}
+
+/// What both layouts begin with: 15 bytes.
+fn hand_laid_lengths(message: &[u8], mask: u8) -> Vec<u8> {
     let length = (message.len() as u16).to_le_bytes();
-    [&[0, 3, 0, 0, 0, 0, 0, 0, 0, 0, 0, 0, 0], &length[..], message].concat()
+    [&[0, 3, mask, 0, 0, 0, 0, 0, 0, 0, 0, 0, 0], &length[..]].concat()
 }
 
 /// The outer layout of a sheet from any bodies, so that wrong ones can be written as well.
@@ -36,6 +49,22 @@ pub fn sheet_of(bodies: &[&[u8]]) -> Vec<u8> {
     }
     sheet.extend(bodies.concat());
     sheet
+}
+
+/// A file of samples/.
+pub fn sample(name: &str) -> Vec<u8> {
+    let path = Path::new(env!("CARGO_MANIFEST_DIR")).join("../samples").join(name);
+    fs::read(&path).unwrap_or_else(|error| panic!("{}: {error}", path.display()))
+}
+
+/// A sheet that was read, written again.
+pub fn written(sheet: &Sheet) -> Vec<u8> {
+    let mut writer = SheetWriter::with_heads(sheet.settings, sheet.template, sheet.heads).unwrap();
+    for record in &sheet.records {
+        writer.push(record).unwrap();
+    }
+    assert_eq!(writer.size(), writer.clone().finish().len());
+    writer.finish()
 }
 
 /// What the program prints for a refusal.

@@ -1,18 +1,19 @@
 //! One case, compared in all its answers.
 
 use super::calls::{self, Owed};
+use super::heads::{Judged, Way};
 use super::listed::Listed;
 use super::ruled::{Ruled, Strictly};
-use crate::ruling::{self, line::without_sequences};
-use crate::sheet::{write_bodies, Record, Sheet, COLOUR, STRAIGHT, STRICT};
+use crate::ruling::{self, line::without_sequences, Names};
+use crate::sheet::{write_bodies, Layout, Record, Sheet, COLOUR, STRAIGHT, STRICT};
 use crate::strict;
 use crate::stub::format;
 use crate::tree::dump;
 use std::fmt;
 
 pub enum Case {
-    /// A template and a record, in every setting, by itself and as a sheet; `unknown` is a settings byte with a bit that is
-    /// not known.
+    /// A template and a record in either layout, in every setting, by itself and as a sheet; `unknown` is a settings byte
+    /// with a bit that is not known.
     Line {
         template: Vec<u8>,
         record: Vec<u8>,
@@ -32,6 +33,17 @@ pub struct Seen {
     pub answers: Vec<u8>,
     pub strictly: Vec<Strictly>,
     pub listed: Vec<Listed>,
+    /// Templates that the name `d` changes, by how it does.
+    pub ways: Vec<(Way, Vec<u8>)>,
+    /// Lines by such templates.
+    pub heads: Vec<Judged>,
+}
+
+impl Seen {
+    fn template(&mut self, template: &[u8], ruled: &Ruled) {
+        self.strictly.push(ruled.seen());
+        self.ways.extend(ruled.ways().iter().map(|way| (*way, template.to_vec())));
+    }
 }
 
 impl Case {
@@ -39,9 +51,9 @@ impl Case {
     pub fn compare(&self, colour: bool, more: usize, seen: &mut Seen) -> Result<(), String> {
         match self {
             Case::Line { template, record, unknown } => {
-                let ruled = Ruled::new(template, &mut seen.listed)?;
+                let ruled = Ruled::new(template, seen)?;
                 if !colour {
-                    seen.strictly.push(ruled.seen());
+                    seen.template(template, &ruled);
                     compare_unknown(*unknown, template, record, more)?;
                 }
                 compare_line(&ruled, template, record, colour, more, seen)
@@ -73,6 +85,7 @@ fn compare_unknown(settings: u8, template: &[u8], record: &[u8], more: usize) ->
     calls::session(&sheet_of(settings, template, record), &owed, more)
 }
 
+/// The bytes of a record are read in one layout and in the other: what is right in one is of a wrong size in the other.
 fn compare_line(
     ruled: &Ruled,
     template: &[u8],
@@ -81,31 +94,46 @@ fn compare_line(
     more: usize,
     seen: &mut Seen,
 ) -> Result<(), String> {
-    let record = Record::read(bytes);
-    let lines = record.map(|record| ruled.owed(&record, colour, &mut seen.listed)).transpose()?;
-    let colour = if colour { COLOUR } else { 0 };
-    for settings in [0, STRAIGHT, STRICT, STRICT | STRAIGHT].map(|others| colour | others) {
-        calls::check(template, settings, ruled.names_timestamp(settings))?;
-        let owed = match (&lines, ruled.refusal(settings)) {
-            (None, _) => Owed::Refused(15),
-            (Some(_), Some(refusal)) => refusal,
-            (Some(lines), None) => lines[usize::from(settings & STRAIGHT != 0)].clone(),
-        };
-        calls::line(template, settings, bytes, &owed, more)?;
-        seen.answers.push(owed.number());
-        let sheet = sheet_of(settings, template, bytes);
-        let session = match (ruling::sheet(&sheet), ruled.refusal(settings)) {
-            (None, _) => Owed::Refused(15),
-            (Some(_), Some(refusal)) => refusal,
-            (Some(_), None) => Owed::Line(printed(&in_the_program(owed.clone()))),
-        };
-        calls::session(&sheet, &session, more)?;
-        match owed {
-            Owed::Line(line) if colour != 0 && settings & STRICT == 0 => compare_visible(&line, more)?,
-            _ => {}
+    for layout in Layout::BOTH {
+        let record = Record::read(bytes, layout);
+        let lines = record.map(|record| ruled.owed(&record, layout, colour, seen)).transpose()?;
+        let colour = if colour { COLOUR } else { 0 };
+        for others in [0, STRAIGHT, STRICT, STRICT | STRAIGHT] {
+            let settings = colour | others | layout.bit();
+            calls::check(template, settings, ruled.names_timestamp(settings))?;
+            let owed = match (&lines, ruled.refusal(settings)) {
+                (None, _) => Owed::Refused(15),
+                (Some(_), Some(refusal)) => refusal,
+                (Some(lines), None) => lines[usize::from(settings & STRAIGHT != 0)].clone(),
+            };
+            compare_owed(ruled, template, settings, bytes, &owed, more)?;
+            seen.answers.push(owed.number());
+            match owed {
+                Owed::Line(line) if colour != 0 && settings & STRICT == 0 => compare_visible(&line, more)?,
+                _ => {}
+            }
         }
     }
     Ok(())
+}
+
+/// A line call, and the sheet of its record alone.
+fn compare_owed(
+    ruled: &Ruled,
+    template: &[u8],
+    settings: u8,
+    record: &[u8],
+    owed: &Owed,
+    more: usize,
+) -> Result<(), String> {
+    calls::line(template, settings, record, owed, more)?;
+    let sheet = sheet_of(settings, template, record);
+    let session = match (ruling::sheet(&sheet), ruled.refusal(settings)) {
+        (None, _) => Owed::Refused(15),
+        (Some(_), Some(refusal)) => refusal,
+        (Some(_), None) => Owed::Line(printed(&in_the_program(owed.clone()))),
+    };
+    calls::session(&sheet, &session, more)
 }
 
 /// The sheet of this record alone, which may be of a wrong size.
@@ -130,14 +158,14 @@ fn session(sheet: Option<&Sheet>, seen: &mut Seen) -> Result<Owed, String> {
     let Some(sheet) = sheet else {
         return whole(Owed::Refused(15), seen);
     };
-    let ruled = Ruled::new(&sheet.template, &mut seen.listed)?;
-    seen.strictly.push(ruled.seen());
+    let ruled = Ruled::new(&sheet.template, seen)?;
+    seen.template(&sheet.template, &ruled);
     if let Some(refusal) = ruled.refusal(sheet.settings) {
         return whole(refusal, seen);
     }
     let mut lines = Vec::new();
     for record in &sheet.records {
-        let [crates, straight] = ruled.owed(record, sheet.colour(), &mut seen.listed)?;
+        let [crates, straight] = ruled.owed(record, sheet.layout(), sheet.colour(), seen)?;
         let owed = in_the_program(if sheet.settings & STRAIGHT != 0 { straight } else { crates });
         seen.answers.push(owed.number());
         lines.extend(printed(&owed));
@@ -166,7 +194,8 @@ fn compare_built_in(choice: [u8; 4], more: usize) -> Result<(), String> {
     let [oneline, location, timestamp, host] = choice.map(|byte| byte != 0);
     let suffix = if host { " (HOST)" } else { "" };
     let template = format::built_in(oneline, location, timestamp).to_string() + suffix;
-    let reading = ruling::template(template.as_bytes()).map_err(|number| format!("{template:?} is {number}"))?;
+    let reading =
+        ruling::template(template.as_bytes(), Names::All).map_err(|number| format!("{template:?} is {number}"))?;
     if dump(&reading.segments) != format::built_in_dump(oneline, location, timestamp, host) {
         return Err(format!("the crate's own formatter reads {template:?} otherwise"));
     }

@@ -1,6 +1,7 @@
 //! What a comparison found: counts, and the partings that are not listed.
 
 use super::case::Seen;
+use super::heads::{Judged, Way};
 use super::listed;
 use super::make::KINDS;
 use super::ruled::Strictly;
@@ -8,6 +9,9 @@ use std::collections::{BTreeMap, BTreeSet};
 
 /// So many are printed in full.
 const SHOWN: usize = 5;
+
+/// By length and then by bytes.
+type Least = (usize, Vec<u8>);
 
 #[derive(Default)]
 pub struct Found {
@@ -17,6 +21,10 @@ pub struct Found {
     /// Templates by what the strict edition makes of them.
     strictly: [u64; Strictly::NAMES.len()],
     listed: [u64; listed::NAMES.len()],
+    /// Templates that the name `d` changes, by how it does: how many, and the least.
+    ways: BTreeMap<Way, (u64, Least)>,
+    /// Lines by such templates, by who judges them.
+    heads: [u64; Judged::NAMES.len()],
     parted: BTreeSet<u64>,
     texts: BTreeMap<u64, String>,
 }
@@ -30,6 +38,16 @@ impl Found {
         seen.answers.iter().for_each(|number| self.answers[usize::from(*number)] += 1);
         seen.strictly.iter().for_each(|strictly| self.strictly[*strictly as usize] += 1);
         seen.listed.iter().for_each(|listed| self.listed[*listed as usize] += 1);
+        seen.ways.iter().for_each(|(way, template)| self.count_way(*way, 1, (template.len(), template.clone())));
+        seen.heads.iter().for_each(|judged| self.heads[*judged as usize] += 1);
+    }
+
+    fn count_way(&mut self, way: Way, count: u64, template: Least) {
+        let (sum, least) = self.ways.entry(way).or_insert_with(|| (0, template.clone()));
+        *sum += count;
+        if template < *least {
+            *least = template;
+        }
     }
 
     pub fn part(&mut self, index: u64, text: String) {
@@ -45,6 +63,10 @@ impl Found {
         sum(&mut self.answers, &other.answers);
         sum(&mut self.strictly, &other.strictly);
         sum(&mut self.listed, &other.listed);
+        sum(&mut self.heads, &other.heads);
+        for (way, (count, least)) in other.ways {
+            self.count_way(way, count, least);
+        }
         self.parted.extend(other.parted);
         for (index, text) in other.texts {
             self.part(index, text);
@@ -62,6 +84,10 @@ impl Found {
         print_counts("answer", &answers, &self.answers);
         print_counts("strict edition", &Strictly::NAMES.map(str::to_string), &self.strictly);
         print_counts("listed difference", &listed::NAMES.map(str::to_string), &self.listed);
+        for (way, (count, (_, template))) in &self.ways {
+            println!("listed difference: {way} {count}, such as `{}`", template.escape_ascii());
+        }
+        print_counts("line with d as a name", &Judged::NAMES.map(str::to_string), &self.heads);
         println!("{count} cases, {} differences not listed", self.parted.len());
         self.parted.is_empty()
     }

@@ -4,6 +4,7 @@
 mod bytes;
 mod crossed;
 mod edges;
+mod heads;
 mod letters;
 mod paths;
 mod records;
@@ -18,21 +19,40 @@ use crate::sample::cases;
 use crate::sample::random::Rng;
 use crate::sheet::{Record, Sheet};
 
-pub const KINDS: [&str; 9] =
-    ["short templates", "long templates", "records", "sheets", "boundaries", "built-ins", "texts", "letters", "strict"];
+pub const KINDS: [&str; 10] = [
+    "short templates",
+    "long templates",
+    "records",
+    "sheets",
+    "boundaries",
+    "built-ins",
+    "texts",
+    "letters",
+    "strict",
+    "heads",
+];
 
 /// Places in `KINDS`. Short templates are cheap, and so many turns show all of up to five tokens in ten million cases.
 const TURNS: [usize; 64] = [
-    0, 1, 0, 2, 0, 3, 0, 0, 8, 0, 2, 0, 4, 0, 0, 7, 0, 8, 0, 0, 1, 0, 7, 0, 3, 0, 0, 1, 0, 2, 5, 0, //
-    0, 1, 0, 2, 0, 3, 0, 0, 8, 0, 2, 0, 4, 0, 0, 7, 0, 8, 0, 0, 1, 0, 7, 0, 3, 0, 0, 1, 0, 2, 6, 0,
+    0, 1, 0, 2, 0, 3, 0, 0, 8, 0, 2, 0, 4, 0, 0, 7, 0, 9, 0, 0, 1, 0, 7, 0, 3, 0, 0, 9, 0, 2, 5, 0, //
+    0, 1, 0, 2, 0, 3, 0, 0, 8, 0, 2, 0, 4, 0, 0, 7, 0, 8, 0, 0, 1, 0, 9, 0, 3, 0, 0, 1, 0, 2, 6, 0,
 ];
 
 /// Settings bytes with a bit that is not known.
-const UNKNOWN: &[&u8] = &[&8, &9, &12, &15, &16, &20, &32, &64, &128, &129, &131, &135, &248, &252, &255];
+const UNKNOWN: &[&u8] = &[&16, &17, &20, &24, &31, &32, &40, &64, &128, &129, &131, &136, &143, &248, &252, &255];
+
+/// The least of them.
+const UNKNOWN_LEAST: u8 = 16;
 
 /// Widths beyond a block of 128 bytes, in which characters are counted.
-const WIDE: &[&str] =
-    &["{s:^300}|", "{[{s}{t}]%>500%bold}|", "{m:0250}|{s:<130}|", "{F:>290}|{s}", "{ff:^199}{c:99}|{s:red:400}|"];
+const WIDE: &[&str] = &[
+    "{s:^300}|",
+    "{[{s}{t}]%>500%bold}|",
+    "{m:0250}|{s:<130}|",
+    "{F:>290}|{s}",
+    "{ff:^199}{c:99}|{s:red:400}|",
+    "{d:>200}|{s}",
+];
 
 /// How many cases there are of every path, and each of them.
 pub fn path_count() -> u64 {
@@ -40,8 +60,8 @@ pub fn path_count() -> u64 {
 }
 
 pub fn path_case(index: u64) -> (usize, Case) {
-    let record = paths::record(index).write();
-    (2, Case::Line { template: paths::template(index).into(), record, unknown: 8 })
+    let record = heads::in_turn(index / paths::TEMPLATES.len() as u64, paths::record(index));
+    (2, systematic(paths::template(index), record))
 }
 
 /// How many cases there are of every four bytes at the edges of UTF-8, and each of them.
@@ -50,8 +70,8 @@ pub fn byte_count() -> u64 {
 }
 
 pub fn byte_case(index: u64) -> (usize, Case) {
-    let record = bytes::record(index).write();
-    (2, Case::Line { template: bytes::TEMPLATE.into(), record, unknown: 8 })
+    let (template, record) = bytes::case(index);
+    (2, systematic(template, record))
 }
 
 /// How many cases there are of every character, and each of them.
@@ -60,18 +80,30 @@ pub fn letter_count() -> u64 {
 }
 
 pub fn letter_case(index: u64) -> (usize, Case) {
-    let record = letters::record().write();
-    (7, Case::Line { template: letters::nth_template(index).into(), record, unknown: 8 })
+    let record = heads::in_turn(index / letters::PLACES.len() as u64, letters::record());
+    (7, systematic(&letters::nth_template(index), record))
 }
 
 /// How many cases there are of templates that leave something unused or nearly do, and each of them.
 pub fn strict_count() -> u64 {
-    strict::count()
+    strict::TEMPLATES.count()
 }
 
 pub fn strict_case(index: u64) -> (usize, Case) {
-    let record = short::record(index).write();
-    (8, Case::Line { template: strict::nth_template(index).into(), record, unknown: 8 })
+    (8, systematic(&strict::TEMPLATES.nth(index), short::record(index)))
+}
+
+/// How many cases there are of templates in which `d` is tried as a name or nearly is, and each of them.
+pub fn head_count() -> u64 {
+    heads::TEMPLATES.count()
+}
+
+pub fn head_case(index: u64) -> (usize, Case) {
+    (9, systematic(&heads::TEMPLATES.nth(index), short::record(index)))
+}
+
+fn systematic(template: &str, record: Vec<u8>) -> Case {
+    Case::Line { template: template.into(), record, unknown: UNKNOWN_LEAST }
 }
 
 pub struct Maker {
@@ -92,7 +124,7 @@ impl Maker {
         let nth = index / TURNS.len() as u64 * of_kind(&TURNS) + of_kind(&TURNS[..turn]);
         let mut rng = Rng(self.seed ^ index.wrapping_mul(0xd134_2543_de82_ef95));
         let case = match kind {
-            0 => line(&mut rng, short::template(self.seed, nth), short::record(nth).write()),
+            0 => line(&mut rng, short::template(self.seed, nth), short::record(nth)),
             1 => long_template(&mut rng),
             2 => record(&mut rng),
             3 => Case::Sheet(sheets::sheet(&mut rng)),
@@ -100,7 +132,8 @@ impl Maker {
             5 => Case::BuiltIn(built_in(&mut rng, nth)),
             6 => Case::Text(texts::text(&mut rng)),
             7 => with_letters(&mut rng),
-            _ => strictly(&mut rng),
+            8 => strictly(&mut rng),
+            _ => with_heads(&mut rng),
         };
         (kind, case)
     }
@@ -113,10 +146,10 @@ impl Maker {
             (0, _) => Case::Sheet(sheet.write()),
             (round, Some(first)) if round % 2 == 0 => {
                 let template = crossed::template(rng);
-                line(rng, template, first.write())
+                line(rng, template, first.write(sheet.layout()))
             }
             _ => {
-                let record = records::record(rng);
+                let record = any_record(rng);
                 line(rng, sheet.template.clone(), record)
             }
         }
@@ -127,22 +160,40 @@ fn line(rng: &mut Rng, template: Vec<u8>, record: Vec<u8>) -> Case {
     Case::Line { template, record, unknown: *rng.pick(UNKNOWN) }
 }
 
+/// Of every shape, in either layout.
+fn any_record(rng: &mut Rng) -> Vec<u8> {
+    let layout = heads::layout(rng);
+    records::record(rng, layout)
+}
+
+/// In either layout, and not refused.
+fn right_record(rng: &mut Rng) -> Vec<u8> {
+    let record = rng.record();
+    heads::written(rng, record)
+}
+
 fn long_template(rng: &mut Rng) -> Case {
     let template = crossed::template(rng);
-    let record = rng.record().write();
+    let record = right_record(rng);
     line(rng, template, record)
 }
 
 fn with_letters(rng: &mut Rng) -> Case {
     let template = letters::template(rng);
-    let record = rng.record().write();
+    let record = right_record(rng);
     line(rng, template, record)
 }
 
 /// 17 comes before whatever is wrong with the record.
 fn strictly(rng: &mut Rng) -> Case {
     let template = strict::template(rng);
-    let record = if rng.one_in(4) { records::record(rng) } else { rng.record().write() };
+    let record = if rng.one_in(4) { any_record(rng) } else { right_record(rng) };
+    line(rng, template, record)
+}
+
+fn with_heads(rng: &mut Rng) -> Case {
+    let template = heads::template(rng);
+    let record = if rng.one_in(4) { any_record(rng) } else { right_record(rng) };
     line(rng, template, record)
 }
 
@@ -152,8 +203,15 @@ fn record(rng: &mut Rng) -> Case {
         return swollen(rng);
     }
     let depth = 1 + rng.below(3);
-    let template = if rng.one_in(8) { rng.pick(WIDE).to_string() } else { rng.template(depth) };
-    let record = records::record(rng);
+    let template = match rng.below(8) {
+        0 => rng.pick(WIDE).to_string(),
+        1 => {
+            let whole = rng.template(depth);
+            rng.headed(&whole)
+        }
+        _ => rng.template(depth),
+    };
+    let record = any_record(rng);
     line(rng, template.into_bytes(), record)
 }
 
@@ -164,7 +222,8 @@ fn swollen(rng: &mut Rng) -> Case {
         template = format!("{{{{L}}{template}%red%bold%underline%italic%strike}}");
     }
     let record = Record { level: 1, message: b"\x1b[0m".repeat(1024), ..Record::default() };
-    line(rng, template.into_bytes(), record.write())
+    let record = heads::written(rng, record);
+    line(rng, template.into_bytes(), record)
 }
 
 /// All sixteen choices, then other bytes than 1 for yes.

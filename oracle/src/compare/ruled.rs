@@ -2,20 +2,25 @@
 //! port owes comes out.
 
 use super::calls::Owed;
+use super::case::Seen;
+use super::heads::{self, Judged, Way};
 use super::listed::{self, Listed};
+use crate::head::{self, StandIn};
 use crate::judge::{self, Shown};
 use crate::kelvin;
 use crate::ruling::line::{without_sequences, Line};
-use crate::ruling::{self, Reading};
-use crate::sheet::{Record, COLOUR, STRAIGHT, STRICT};
+use crate::ruling::{self, Names, Reading};
+use crate::sheet::{Layout, Record, COLOUR, STRAIGHT, STRICT};
 use crate::strict;
 use crate::stub::format::{Refusal, Template};
 use crate::tree::{dump, names, Kind, Segment, Specifier};
 
 pub struct Ruled {
-    /// In the first edition.
+    /// In the first edition, by all names.
     reading: Result<Reading, u8>,
     judge: Judge,
+    /// How the name `d` changes it.
+    ways: Vec<Way>,
 }
 
 /// What the strict edition makes of a template; by what comes first where that is 17.
@@ -33,25 +38,36 @@ impl Strictly {
 }
 
 /// Who judges the lines.
-enum Judge {
+pub enum Judge {
     /// The template gives none.
     Nobody,
     /// The crate, by its reading of the template.
     Crate(Template),
     /// The crate, by the template with another letter in place of the Kelvin sign.
     Other(Box<Ruled>),
+    /// The crate, by the template with another name in place of `d`.
+    StandIn(Box<Ruled>, StandIn),
+    /// The crate cannot be asked: the ruling stands alone.
+    Alone,
 }
 
 impl Ruled {
-    /// An error where ruling and crate part and no reason for it is listed.
-    pub fn new(template: &[u8], listed: &mut Vec<Listed>) -> Result<Ruled, String> {
-        let reading = ruling::template(template);
-        let judge = match reading {
+    /// An error where ruling and crate part and no reason for it is listed. The crate is asked by its own names; where `d`
+    /// changes the ruling, it is asked with another name in its place as well.
+    pub fn new(template: &[u8], seen: &mut Seen) -> Result<Ruled, String> {
+        let [crates, reading] = [Names::Crates, Names::All].map(|names| ruling::template(template, names));
+        let judge = match crates {
             // The crate cannot be asked, or knows no such limit.
             Err(1 | 2 | 5..=8) => Judge::Nobody,
-            _ => judged_reading(std::str::from_utf8(template).expect("not 2"), &reading, listed)?,
+            _ => judged_reading(text_of(template), &crates, seen)?,
         };
-        Ok(Ruled { reading, judge })
+        if reading == crates {
+            return Ok(Ruled { reading, judge, ways: Vec::new() });
+        }
+        if !head::is_tried(text_of(template)) {
+            return Err("reading\n  another by the name `d`, which is not tried".to_string());
+        }
+        Ok(Ruled { judge: heads::judged(text_of(template))?, ways: heads::ways(&crates, &reading), reading })
     }
 
     /// The refusal of the template in the edition that the settings choose. "It reads exactly the templates that the first
@@ -82,32 +98,52 @@ impl Ruled {
         }
     }
 
+    /// How the name `d` changes the template, in either edition.
+    pub fn ways(&self) -> &[Way] {
+        &self.ways
+    }
+
     /// What is owed for a record in the crate's mode and in straight mode, in the first edition; in the strict one it is the
     /// same, or the template's refusal. `colour` must be what `set_colour` set last.
-    pub fn owed(&self, record: &Record, colour: bool, listed: &mut Vec<Listed>) -> Result<[Owed; 2], String> {
+    pub fn owed(&self, record: &Record, layout: Layout, colour: bool, seen: &mut Seen) -> Result<[Owed; 2], String> {
         let both = |number| [Owed::Refused(number), Owed::Refused(number)];
         let segments = match &self.reading {
             Err(number) => return Ok(both(*number)),
             Ok(reading) => &reading.segments,
         };
-        if let Some(number) = ruling::record(record) {
+        if let Some(number) = ruling::record(record, layout) {
             return Ok(both(number));
         }
         let settings = if colour { COLOUR } else { 0 };
         let crates = ruling::line(segments, record, settings);
-        match &self.judge {
-            Judge::Nobody => unreachable!("the crate was asked where the template is read"),
-            Judge::Crate(read) => judged_line(read, segments, record, settings, &crates, listed)?,
-            Judge::Other(ruled) => drop(ruled.owed(record, colour, listed)?),
-        }
         let straight = ruling::line(segments, record, settings | STRAIGHT);
         judged_straight(segments, record, &crates, &straight)?;
-        Ok([crates, straight].map(|line| Owed::Line(line.text.into_bytes())))
+        let owed = [&crates, &straight].map(|line| Owed::Line(line.text.clone().into_bytes()));
+        match &self.judge {
+            Judge::Nobody => unreachable!("the crate was asked where the template is read"),
+            Judge::Crate(read) => judged_line(read, segments, record, settings, &crates, seen)?,
+            Judge::Other(ruled) => drop(ruled.owed(record, layout, colour, seen)?),
+            Judge::StandIn(ruled, stand_in) => {
+                same_lines(&owed, &ruled.owed(&stand_in.lent(record), layout, colour, seen)?)?;
+                seen.heads.push((*stand_in).into());
+            }
+            Judge::Alone => seen.heads.push(Judged::Alone),
+        }
+        Ok(owed)
     }
 }
 
+/// What a stand-in shows in place of the serial is the serial: the lines are the same.
+fn same_lines(owed: &[Owed; 2], others: &[Owed; 2]) -> Result<(), String> {
+    (owed == others).then_some(()).ok_or_else(|| format!("line with `d`\n  {owed:?}\n  with a stand-in: {others:?}"))
+}
+
+fn text_of(template: &[u8]) -> &str {
+    std::str::from_utf8(template).expect("not 2")
+}
+
 /// Where the ruling is 3, 4, 9 or that it is read, the crate must agree, segment by segment and in what is unused.
-fn judged_reading(template: &str, reading: &Result<Reading, u8>, listed: &mut Vec<Listed>) -> Result<Judge, String> {
+fn judged_reading(template: &str, reading: &Result<Reading, u8>, seen: &mut Seen) -> Result<Judge, String> {
     let asked = judge::read(template);
     let agree = match (reading, &asked) {
         (Err(3), Some(Err(Refusal::Failure))) | (Err(9), None) => true,
@@ -128,7 +164,7 @@ fn judged_reading(template: &str, reading: &Result<Reading, u8>, listed: &mut Ve
     let (crates, ruled) = (judge::segments(template.as_bytes()), ruled_dump(template, reading));
     match judged_by_letters(template, reading, &crates, &ruled) {
         Some(other) => {
-            listed.push(Listed::Kelvin);
+            seen.listed.push(Listed::Kelvin);
             Ok(Judge::Other(Box::new(other)))
         }
         None => Err(format!("reading\n  the crate: {crates}\n  ruled: {ruled}")),
@@ -137,7 +173,7 @@ fn judged_reading(template: &str, reading: &Result<Reading, u8>, listed: &mut Ve
 
 /// The ruled segments of a template that has everything but `{s}`.
 fn without_message(template: &str) -> Vec<Segment> {
-    ruling::parse(template.as_bytes()).expect("only {s} is missing").segments
+    ruling::parse(template.as_bytes(), Names::Crates).expect("only {s} is missing").segments
 }
 
 /// In the form of `judge::segments`.
@@ -154,13 +190,14 @@ fn ruled_dump(template: &str, reading: &Result<Reading, u8>) -> String {
 /// part and nothing else is: the crate reads it for a `K` and the ruling for the other letter, and where either letter
 /// stands they agree. With the other letter, which is as long, the same bytes must be unused.
 fn judged_by_letters(template: &str, reading: &Result<Reading, u8>, crates: &str, ruled: &str) -> Option<Ruled> {
-    let agreed = |letter| Ruled::new(kelvin::with(letter, template).as_bytes(), &mut Vec::new()).ok();
+    let agreed = |letter| Ruled::new(kelvin::with(letter, template).as_bytes(), &mut Seen::default()).ok();
     let explained = template.contains(kelvin::SIGN)
         && kelvin::is_read_as(crates, kelvin::LARGE_K, template)
         && kelvin::is_read_as(ruled, kelvin::OTHER, template)
         && agreed(kelvin::LARGE_K).is_some();
+    let other = ruling::template(kelvin::with(kelvin::OTHER, template).as_bytes(), Names::Crates);
     let unused = |reading: &Result<Reading, u8>| reading.as_ref().map(|reading| reading.unused.clone()).ok();
-    explained.then(|| agreed(kelvin::OTHER)).flatten().filter(|other| unused(&other.reading) == unused(reading))
+    (explained && unused(&other) == unused(reading)).then(|| agreed(kelvin::OTHER)).flatten()
 }
 
 fn names_timestamp(segments: &[Segment]) -> bool {
@@ -174,7 +211,7 @@ fn judged_line(
     record: &Record,
     settings: u8,
     line: &Line,
-    listed: &mut Vec<Listed>,
+    seen: &mut Seen,
 ) -> Result<(), String> {
     let shown = judge::shown(asked, record);
     if is(&shown, &line.text) {
@@ -188,7 +225,7 @@ fn judged_line(
     if reasons.is_empty() || !explained {
         return Err(format!("line, settings {settings}\n  the crate: {shown:?}\n  ruled: {:?}", line.text));
     }
-    listed.extend(reasons);
+    seen.listed.extend(reasons);
     Ok(())
 }
 

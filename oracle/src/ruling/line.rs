@@ -1,9 +1,13 @@
-//! Document 01's line of a record, in all modes. The crate judges it wherever the crate has an answer.
+//! Document 01's line of a record, in all modes, with document 02's serial of a head (E7). The crate judges it wherever the
+//! crate has an answer.
 
 use crate::sheet::{Record, COLOUR, HOST, STRAIGHT};
 use crate::tree::{Alignment, Colour, Format, Kind, Padding, Segment, Specifier, STYLES};
 
 const RESET: &str = "\x1b[0m";
+
+/// "`<head>` when absent": a serial that is there and empty shows nothing.
+pub const NO_HEAD: &str = "<head>";
 
 /// ERROR to TRACE: name and colour code.
 const LEVELS: [(&str, u8); 5] = [("ERROR", 31), ("WARN", 33), ("INFO", 32), ("DEBUG", 97), ("TRACE", 90)];
@@ -95,6 +99,7 @@ impl Builder<'_> {
             Specifier::ModulePath => module.unwrap_or("<mod path>").to_string(),
             Specifier::Timestamp if record.source == HOST || record.timestamp.is_empty() => "<time>".to_string(),
             Specifier::Timestamp => text_of(&record.timestamp).to_string(),
+            Specifier::HeadSerial => record.head().map_or(NO_HEAD, text_of).to_string(),
         }
     }
 

@@ -1,5 +1,5 @@
-//! Document 01's reading of a template, limits included, with document 02's letters (E3) and a note of what is left unused
-//! (E5). The functions are named as in the crate, which reads in the same order, so that the two can be laid side by side.
+//! Document 01's reading of a template, limits included, with document 02's letters (E3), a note of what is left unused (E5)
+//! and, where it is asked for, the name `d` (E7). The functions are named as in the crate, which reads in the same order, so that the two can be laid side by side.
 
 use super::unused::{Lost, Unused};
 use crate::tree::{Alignment, Colour, Format, Kind, Padding, Segment, Specifier, COLOURS, STYLES};
@@ -38,13 +38,21 @@ pub struct Reading {
     pub unused: Unused,
 }
 
+/// The names that a template is read by. "Templates in which `d` is tried as a name now part from the crate".
+#[derive(Clone, Copy, Debug, PartialEq)]
+pub enum Names {
+    Crates,
+    /// `d` among them, whatever the settings: they tell layouts of records apart.
+    All,
+}
+
 /// The whole reading, or the number; a template without `{s}` is read here.
-pub fn parse(template: &[u8]) -> Result<Reading, u8> {
+pub fn parse(template: &[u8], names: Names) -> Result<Reading, u8> {
     if template.len() > MOST_BYTES {
         return Err(1);
     }
     let text = std::str::from_utf8(template).map_err(|_| 2)?;
-    let mut reader = Reader { text, made: 0, unused: Unused::default() };
+    let mut reader = Reader { text, names, made: 0, unused: Unused::default() };
     let read = many0(text, |i| alt(reader.parse_argument(1, i), || reader.parse_string_segment(i)));
     match read {
         Ok((rest, segments)) => {
@@ -58,6 +66,7 @@ pub fn parse(template: &[u8]) -> Result<Reading, u8> {
 
 struct Reader<'a> {
     text: &'a str,
+    names: Names,
     made: usize,
     unused: Unused,
 }
@@ -87,7 +96,7 @@ impl<'a> Reader<'a> {
     fn parse_log_segment(&mut self, depth: usize, content: &'a str) -> Result<Segment, Miss> {
         let (rest, items) = if depth % 2 == 1 {
             separated_list1(':', content, |i| {
-                alt(parse_metadata(i), || alt(parse_format(i), || self.parse_nested(depth, i)))
+                alt(parse_metadata(self.names, i), || alt(parse_format(i), || self.parse_nested(depth, i)))
             })
         } else {
             separated_list1('%', content, |i| {
@@ -101,7 +110,7 @@ impl<'a> Reader<'a> {
 
     /// The `:`-list at even depth, which misfits where its parts don't go together.
     fn parse_nested_log_segment(&mut self, input: &'a str) -> Fit<'a, Item> {
-        let (rest, items) = separated_list1(':', input, |i| alt(parse_metadata(i), || parse_format(i)))?;
+        let (rest, items) = separated_list1(':', input, |i| alt(parse_metadata(self.names, i), || parse_format(i)))?;
         Ok((rest, Item::Nested(self.build_log_segment(alone(items), Misfit)?)))
     }
 
@@ -188,7 +197,7 @@ fn name(input: &str) -> Fit<'_, &str> {
     Ok((rest, run))
 }
 
-fn parse_metadata(input: &str) -> Fit<'_, Item> {
+fn parse_metadata(names: Names, input: &str) -> Fit<'_, Item> {
     let (rest, name) = name(input)?;
     let specifier = match name {
         "c" => Specifier::CrateName,
@@ -198,6 +207,7 @@ fn parse_metadata(input: &str) -> Fit<'_, Item> {
         "L" => Specifier::LogLevel,
         "m" => Specifier::ModulePath,
         "t" => Specifier::Timestamp,
+        "d" if names == Names::All => Specifier::HeadSerial,
         _ if name.bytes().any(|byte| byte != b'f') => return Err(Misfit),
         _ if name.len() > MOST_F => return Err(Refused(8)),
         _ => Specifier::FileName(name.len() as u8),

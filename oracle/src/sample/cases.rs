@@ -4,7 +4,7 @@ use super::random::{in_case, Rng, COLOURS, FILES, MESSAGES, MODULES, SPECIFIERS,
 use super::{is_listed, may_cross, LISTED};
 use crate::examples::{COLOURED, CRATES, PARTED, PATHS, PLAIN, REFUSED, VISIBLE};
 use crate::judge;
-use crate::sheet::{Record, Sheet, COLOUR, FILE, HOST, LINE, MODULE, STRAIGHT};
+use crate::sheet::{Layout, Record, Sheet, COLOUR, FILE, HOST, LINE, MODULE, STRAIGHT};
 use crate::stub::format::built_in;
 use std::collections::HashSet;
 
@@ -40,6 +40,7 @@ pub fn all(seed: u64) -> Vec<Case> {
     maker.field_limits();
     maker.listed();
     maker.strict();
+    maker.heads();
     maker.cases
 }
 
@@ -95,7 +96,7 @@ impl Maker {
     }
 
     /// Without colour nothing is inserted, so there the port's straight mode prints alike too.
-    fn settings(&mut self) -> u8 {
+    pub(super) fn settings(&mut self) -> u8 {
         match self.rng.below(16) {
             0 => STRAIGHT,
             n if n < 5 => 0,
@@ -214,7 +215,7 @@ impl Maker {
                 for source in 0..2 {
                     for settings in [0, COLOUR] {
                         let record = Record { source, level, ..full() };
-                        if record.is_possible() {
+                        if record.is_possible(Layout::Old) {
                             self.alike("levels", settings, template, vec![record]);
                         }
                     }

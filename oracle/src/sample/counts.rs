@@ -2,6 +2,9 @@
 
 use super::cases::Case;
 use crate::judge::{self, Answer};
+use crate::ruling::{self, Names};
+use crate::sheet::Layout;
+use crate::tree;
 use std::collections::BTreeMap;
 
 #[derive(Default)]
@@ -17,6 +20,7 @@ impl Counts {
             ("family", case.family.to_string()),
             ("setting", if case.sheet.colour() { "colour on" } else { "colour off" }.to_string()),
             ("edition", if case.sheet.strict() { "strict" } else { "first" }.to_string()),
+            ("records", if case.sheet.layout() == Layout::Old { "old" } else { "with heads" }.to_string()),
             ("answer", summary(answer)),
         ];
         for record in &case.sheet.records {
@@ -25,7 +29,7 @@ impl Counts {
             touched.push(("mask", record.mask.to_string()));
         }
         if let Answer::Read(_) = answer {
-            let dump = judge::segments(&case.sheet.template);
+            let dump = dump(&case.sheet.template);
             touched.push(("groups in groups", group_depth(&dump).to_string()));
             touch_segments(&dump, &mut touched);
         }
@@ -49,6 +53,12 @@ impl Counts {
         }
         println!();
     }
+}
+
+/// The segments as they are ruled, and the crate's where a limit of the port is crossed.
+fn dump(template: &[u8]) -> String {
+    let ruled = ruling::template(template, Names::All);
+    ruled.map_or_else(|_| judge::segments(template), |reading| tree::dump(&reading.segments))
 }
 
 fn summary(answer: &Answer) -> String {

@@ -1,6 +1,6 @@
 //! Chance with a seed, and what is drawn from it: parameters, templates, records.
 
-use crate::sheet::{Record, DEVICE, FILE, HOST, LINE, MODULE};
+use crate::sheet::{Record, DEVICE, FILE, HEAD, HOST, LINE, MODULE};
 
 /// splitmix64: small, and the same on every machine.
 pub struct Rng(pub u64);
@@ -140,6 +140,23 @@ pub const MESSAGES: &[&str] = &[
     "a much longer message that no small width holds",
 ];
 const LINES: &[u32] = &[0, 1, 7, 42, 999, 1000, 12345, 99999, u32::MAX];
+
+/// Up to 32 bytes, the most that are allowed.
+pub const SERIALS: &[&str] = &[
+    "",
+    "H",
+    "H-07",
+    "<head>",
+    "tête",
+    "ヘッド2",
+    "\x1b[31mH\x1b[0m",
+    "\x1b[",
+    "a::b",
+    "./a/b.rs",
+    "wall B3, upper left, head no. 07",
+    "wall B3, upper left, head no. 7",
+    "éééééééééééééééé",
+];
 
 /// A colour word in one of four ways to write it.
 pub fn in_case(word: &str, way: usize) -> String {
@@ -293,6 +310,20 @@ impl Rng {
         }
         record.timestamp = self.pick(TIMESTAMPS).into();
         record.message = self.pick(MESSAGES).into();
+        if mask & HEAD != 0 {
+            record.head = self.pick(SERIALS).into();
+        }
         record
+    }
+
+    /// The template with `d` in place of one of its names, or with `{d}` before it.
+    pub fn headed(&mut self, template: &str) -> String {
+        let named = |at: &usize| template[*at..].starts_with(['c', 'F', 'l', 'L', 'm', 't', 'f']);
+        let names: Vec<usize> = template.match_indices('{').map(|(at, _)| at + 1).filter(named).collect();
+        if names.is_empty() || self.one_in(4) {
+            return format!("{{d{}}}{template}", self.parameters(':'));
+        }
+        let at = names[self.below(names.len())];
+        [&template[..at], "d", &template[at + 1..]].concat()
     }
 }

@@ -3,7 +3,7 @@
 use super::cases::{full, info, Maker};
 use super::{is_listed, may_cross, DROPPED};
 use crate::examples::STRICT as EXAMPLES;
-use crate::ruling::{self, Reading};
+use crate::ruling::{self, Names, Reading};
 use crate::sheet::{Record, Sheet, COLOUR, HOST, STRICT};
 use crate::stub::format::built_in;
 
@@ -27,7 +27,7 @@ impl Maker {
         self.strict_by_chance();
     }
 
-    fn in_both_editions(&mut self, settings: u8, template: &str, record: Record) {
+    pub(super) fn in_both_editions(&mut self, settings: u8, template: &str, record: Record) {
         let number = if is_unused(template) { DROPPED } else { 0 };
         self.alike("strict", settings, template, vec![record.clone()]);
         let sheet = Sheet { settings: settings | STRICT, template: template.into(), records: vec![record] };
@@ -80,7 +80,7 @@ impl Maker {
                 _ => whole,
             };
             let record = self.rng.record();
-            let Ok(Reading { unused, .. }) = ruling::template(template.as_bytes()) else { continue };
+            let Ok(Reading { unused, .. }) = ruling::template(template.as_bytes(), Names::All) else { continue };
             let kind = if unused.lost.is_empty() { usize::from(!unused.dropped.is_empty()) } else { 2 };
             let sheet = Sheet { settings: STRICT | COLOUR, template: template.into(), records: vec![record] };
             if room[kind] > 0 && !may_cross(&sheet.template) && !is_listed(&sheet) {
@@ -92,5 +92,5 @@ impl Maker {
 }
 
 fn is_unused(template: &str) -> bool {
-    ruling::template(template.as_bytes()).map_or(false, |reading| reading.unused.place().is_some())
+    ruling::template(template.as_bytes(), Names::All).map_or(false, |reading| reading.unused.place().is_some())
 }

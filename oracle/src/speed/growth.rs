@@ -3,7 +3,7 @@
 use super::gauge;
 use super::texts::cycled;
 use super::timing::{alone, in_turn, shown};
-use crate::sheet::{Record, COLOUR, STRAIGHT, STRICT};
+use crate::sheet::{Layout, Record, COLOUR, STRAIGHT, STRICT};
 use pralakuon::entries;
 use std::hint::black_box;
 
@@ -96,7 +96,7 @@ fn table(name: &str, rows: &[Row]) {
     println!("| {name} | template, bytes | line, bytes | ns | ns for a byte at a level |\n|---|---|---|---|---|");
     let mut out = vec![0; ROOM];
     for (size, template, record, depth) in rows {
-        let record = record.write();
+        let record = record.write(Layout::Old);
         let mut call =
             || entries::line(black_box(template.as_bytes()), COLOUR | STRAIGHT, black_box(&record), &mut out);
         let answer = call();

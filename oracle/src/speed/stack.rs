@@ -2,7 +2,7 @@
 
 use super::gauge;
 use super::texts::cycled;
-use crate::sheet::{Sheet, COLOUR, STRAIGHT, STRICT};
+use crate::sheet::{Layout, Sheet, COLOUR, STRAIGHT, STRICT};
 use pralakuon::entries;
 use std::hint::black_box;
 use std::thread;
@@ -23,7 +23,7 @@ pub fn run() {
 fn print() {
     let templates = templates();
     let sheets = |settings| -> Vec<_> { templates.iter().map(|template| sheet(settings, template)).collect() };
-    let record = gauge().write();
+    let record = gauge().write(Layout::Old);
     let mut out = vec![0; 1 << 20];
     println!("| entry | stack, bytes at most |\n|---|---|");
     let straight = COLOUR | STRAIGHT;

@@ -2,7 +2,7 @@
 //! for either, so that its times are differences: what a text adds to a line.
 
 use super::timing::{all_in_turn, shown, Works, FINE};
-use crate::sheet::{Record, FILE};
+use crate::sheet::{Layout, Record, FILE};
 use pralakuon::entries;
 use std::arch::asm;
 use std::cell::RefCell;
@@ -199,12 +199,12 @@ fn rows(texts: &[(&'static str, &str)], record: fn(&str) -> Vec<u8>) -> Vec<Row>
 
 /// A record with the text as its message.
 fn saying(text: &str) -> Vec<u8> {
-    Record { message: text.into(), ..blank() }.write()
+    Record { message: text.into(), ..blank() }.write(Layout::Old)
 }
 
 /// A record with the text as its timestamp, and no message.
 fn timed(text: &str) -> Vec<u8> {
-    Record { timestamp: text.into(), ..blank() }.write()
+    Record { timestamp: text.into(), ..blank() }.write(Layout::Old)
 }
 
 /// A record whose next text begins after 16 bytes: 15 are the head, and one is the file.

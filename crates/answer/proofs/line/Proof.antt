@@ -4,7 +4,8 @@ use lib.ListN.{length}
 use borrow.Author.Needs.{needs}
 use borrow.Author.Tests.{not-true, not-false}
 use Rattle.refusals.specs.declared.Refusal.{Refusal}
-use Rattle.record.specs.Layout.{laidOut}
+use Rattle.record.specs.declared.Form.{Form}
+use Rattle.record.specs.Layout.{rightSize}
 use Rattle.answer.specs.Answers.{answerOf, bufferAfter}
 use Rattle.answer.proofs.Answering.{same-outcome, unknown-bit, wrong-size, is-call}
 use Rattle.packing.proofs.Rooms.{packable-refused}
@@ -21,6 +22,9 @@ returns c =
     let a = known .before .before .before .before .args in
     let o = unknown-bit (a .settings) (a .t .now) (a .d .now) (length (a .out .now)) (sym (known .is-known .ensures) ∙ not-true _ (c .if1 .taken)) in
     (ap answerOf o, (ap (bufferAfter (a .out .now)) o, packable-refused Refusal.NotASheet refl))
+
+form-of-requires : tie.Need-form-of-requires
+form-of-requires c κs = search needs
 
 right-size-requires : tie.Need-right-size-requires
 right-size-requires c κs = search needs
@@ -45,22 +49,27 @@ returns-2 c =
     let set = c .before .before .before .before in
     let edition = set .before in
     let sized = edition .before in
-    let tested = sized .before .before in
+    let form = sized .before .before in
+    let tested = form .before in
     let a = tested .before .before .before .before .before .args in
     let t = a .t .now in
     let d = a .d .now in
     let room = length (a .out .now) in
+    let size = ap (λ (f : Form). rightSize f d) (sym (form .form-of .ensures)) ∙ sym (sized .before .right-size .ensures) ∙ sized .if2 .taken in
     let o =
-    same-outcome _ _ _ _ (edition .edition-of .ensures) (set .settings-of .ensures) t (laidOut d) room
-    ∙ is-call (a .settings) t d room (sym (tested .before .is-known .ensures) ∙ not-false _ (tested .if1 .left)) (sym (sized .before .right-size .ensures) ∙ sized .if2 .taken) in
+    same-outcome _ _ _ _ _ _ (form .form-of .ensures) (edition .edition-of .ensures) (set .settings-of .ensures) t d room
+    ∙ is-call (a .settings) t d room (sym (tested .before .is-known .ensures) ∙ not-false _ (tested .if1 .left)) size in
     (k .ensures .0 ∙ ap answerOf o, (k .ensures .1 .0 ∙ ap (bufferAfter (a .out .now)) o, k .ensures .1 .1))
 
 returns-3 : tie.Need-returns-3
 unfolding answerOf bufferAfter
 returns-3 c =
-    let tested = c .before .before in
+    let form = c .before .before in
+    let tested = form .before in
     let a = tested .before .before .before .before .before .args in
-    let o = wrong-size (a .settings) (a .t .now) (a .d .now) (length (a .out .now)) (sym (tested .before .is-known .ensures) ∙ not-false _ (tested .if1 .left)) (sym (c .before .right-size .ensures) ∙ c .if2 .left) in
+    let d = a .d .now in
+    let size = ap (λ (f : Form). rightSize f d) (sym (form .form-of .ensures)) ∙ sym (c .before .right-size .ensures) ∙ c .if2 .left in
+    let o = wrong-size (a .settings) (a .t .now) d (length (a .out .now)) (sym (tested .before .is-known .ensures) ∙ not-false _ (tested .if1 .left)) size in
     (ap answerOf o, (ap (bufferAfter (a .out .now)) o, packable-refused Refusal.NotASheet refl))
 
 pub line-spec : {M : Type 1} → statement M
@@ -69,6 +78,7 @@ line-spec =
     (tie.spec
     is-known-requires
     returns
+    form-of-requires
     right-size-requires
     edition-of-requires
     settings-of-requires

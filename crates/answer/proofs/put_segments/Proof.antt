@@ -29,7 +29,7 @@ returns : tie.Need-returns
 unfolding placesOf
 returns c =
     let p = c .before .before .before .before .before .before .before .before .before in
-    let e = record-by (p .args .cells .now) (p .args .t .now) (p .args .d .now) (p .args .n) (p .args .p) (p .args .p .source ∷ p .args .p .level ∷ p .args .p .mask ∷ p .args .p .line ∷ p .args .p .«file_from» ∷ p .args .p .«file_to» ∷ p .args .p .«module_from» ∷ p .args .p .«module_to» ∷ p .args .p .«timestamp_from» ∷ p .args .p .«timestamp_to» ∷ p .args .p .«message_from» ∷ p .args .p .«message_to» ∷ []) (p .pre) refl in
+    let e = record-by (p .args .cells .now) (p .args .t .now) (p .args .d .now) (p .args .n) (p .args .p) (p .args .p .source ∷ p .args .p .level ∷ p .args .p .mask ∷ p .args .p .line ∷ p .args .p .«file_from» ∷ p .args .p .«file_to» ∷ p .args .p .«module_from» ∷ p .args .p .«module_to» ∷ p .args .p .«timestamp_from» ∷ p .args .p .«timestamp_to» ∷ p .args .p .«message_from» ∷ p .args .p .«message_to» ∷ p .args .p .«serial_from» ∷ p .args .p .«serial_to» ∷ []) (p .pre) refl in
     let x = ap (λ (r : Record). segmentsText (p .args .s) (p .args .t .now) r (chainAt (p .args .cells .now) (p .args .n))) e in
     (c .before .before .write-line .ensures .0 ∙ ap length x, c .before .before .write-line .ensures .1 ∙ ap (written (p .args .out .now)) x)
 

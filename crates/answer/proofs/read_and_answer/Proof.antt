@@ -49,7 +49,7 @@ returns c =
     let cells = q .last .1 .1 .0 in
     let eq = c .before .before .before .before .before .before .read .given .1 in
     let told = sym (q .ensures .0) ∙ ap (λ (x : Parsed). tellParsed x cells) eq in
-    let o = read-outcome (p .args .edition) (p .args .s) (p .args .t .now) (laidOut (p .args .d .now)) (length (p .args .out .now)) _ told in
+    let o = read-outcome (p .args .form) (p .args .edition) (p .args .s) (p .args .t .now) (laidOut (p .args .form) (p .args .d .now)) (length (p .args .out .now)) _ told in
     let k = c .before .before .answer-record in
     (k .ensures .0 ∙ ap answerOf o, (k .ensures .1 .0 ∙ ap (bufferAfter (p .args .out .now)) o, k .ensures .1 .1))
 
@@ -62,7 +62,7 @@ returns-2 c =
     let eq = c .before .read2 .given .1 in
     let told = sym (q .ensures .0) ∙ ap (λ (x : Parsed). tellParsed x cells) eq in
     let r = c .before .read2 .given .0 .0 in
-    let o = unread-outcome (p .args .edition) (p .args .s) (p .args .t .now) (laidOut (p .args .d .now)) (length (p .args .out .now)) r told in
+    let o = unread-outcome (p .args .form) (p .args .edition) (p .args .s) (p .args .t .now) (laidOut (p .args .form) (p .args .d .now)) (length (p .args .out .now)) r told in
     (ap answerOf o, (ap (bufferAfter (p .args .out .now)) o, packable-small r (small-value _ r (refused-by (p .args .edition) (p .args .t .now) r told))))
 
 pub read-and-answer-spec : {M : Type 1} → statement M

@@ -1,7 +1,7 @@
 -- `checks::check_fields` meets its contract: the first text that is refused decides. Assumes nothing.
 use borrow.Author.Needs.{needs}
 use mathlib.Core.Path.{ap, sym, _∙_}
-use Rattle.checks.proofs.Refusing.{at-file, at-module, at-timestamp, at-message}
+use Rattle.checks.proofs.Refusing.{at-file, at-module, at-timestamp, at-message, at-serial}
 use Rattle.record.specs.Placed.{laidBy}
 use Rattle.checks.specs.Told.{tellChecked}
 use Rattle.checks.proofs.check_fields.Statement.{statement}
@@ -64,15 +64,36 @@ returns-3 c =
 check-part-requires-4 : tie.Need-check-part-requires-4
 check-part-requires-4 c κs = search needs
 
+enum-told-7 : tie.Need-enum-told-7
+enum-told-7 c = search needs
+
+enum-told-8 : tie.Need-enum-told-8
+enum-told-8 c = search needs
+
 returns-4 : tie.Need-returns-4
 unfolding tellChecked laidBy
 returns-4 c =
-    let p = c .before .before .before .before .before .before .before .before .before .before .before in
+    let p = c .before .before .before .before .before .before .before .before .before .before .before .before .before in
     let l = laidBy (p .args .p) (p .args .d .now) in
-    let file = sym (c .before .before .before .before .before .before .before .before .before .check-part .ensures) ∙ ap tellChecked (c .before .before .before .before .before .before .before .enum-told .given .1) in
-    let modules = sym (c .before .before .before .before .before .before .check-part2 .ensures) ∙ ap tellChecked (c .before .before .before .before .enum-told3 .given .1) in
-    let timestamp = sym (c .before .before .before .check-part3 .ensures) ∙ ap tellChecked (c .before .enum-told5 .given .1) in
-    c .check-part4 .ensures ∙ sym (at-message l file modules timestamp)
+    let file = sym (c .before .before .before .before .before .before .before .before .before .before .before .check-part .ensures) ∙ ap tellChecked (c .before .before .before .before .before .before .before .before .before .enum-told .given .1) in
+    let modules = sym (c .before .before .before .before .before .before .before .before .check-part2 .ensures) ∙ ap tellChecked (c .before .before .before .before .before .before .enum-told3 .given .1) in
+    let timestamp = sym (c .before .before .before .before .before .check-part3 .ensures) ∙ ap tellChecked (c .before .before .before .enum-told5 .given .1) in
+    let message = sym (c .before .before .check-part4 .ensures) ∙ ap tellChecked (c .enum-told8 .given .1) in
+    c .before .before .check-part4 .ensures ∙ sym (at-message l file modules timestamp _ message)
+
+check-part-requires-5 : tie.Need-check-part-requires-5
+check-part-requires-5 c κs = search needs
+
+returns-5 : tie.Need-returns-5
+unfolding tellChecked laidBy
+returns-5 c =
+    let p = c .before .before .before .before .before .before .before .before .before .before .before .before .before .before in
+    let l = laidBy (p .args .p) (p .args .d .now) in
+    let file = sym (c .before .before .before .before .before .before .before .before .before .before .before .before .check-part .ensures) ∙ ap tellChecked (c .before .before .before .before .before .before .before .before .before .before .enum-told .given .1) in
+    let modules = sym (c .before .before .before .before .before .before .before .before .before .check-part2 .ensures) ∙ ap tellChecked (c .before .before .before .before .before .before .before .enum-told3 .given .1) in
+    let timestamp = sym (c .before .before .before .before .before .before .check-part3 .ensures) ∙ ap tellChecked (c .before .before .before .before .enum-told5 .given .1) in
+    let message = sym (c .before .before .before .check-part4 .ensures) ∙ ap tellChecked (c .before .enum-told7 .given .1) in
+    c .check-part5 .ensures ∙ sym (at-serial l file modules timestamp message)
 
 pub check-fields-spec : {M : Type 1} → statement M
 check-fields-spec =
@@ -91,4 +112,8 @@ check-fields-spec =
     enum-told-6
     returns-3
     check-part-requires-4
-    returns-4)
+    enum-told-7
+    enum-told-8
+    returns-4
+    check-part-requires-5
+    returns-5)

@@ -11,13 +11,13 @@ badly-marked-requires c κs = search needs
 
 returns : tie.Need-returns
 unfolding tellChecked
-returns c = sym (refused-marks _ (sym (c .before .badly-marked .ensures) ∙ c .if1 .taken))
+returns c = sym (refused-marks _ _ (sym (c .before .badly-marked .ensures) ∙ c .if1 .taken))
 
 check-fields-requires : tie.Need-check-fields-requires
 check-fields-requires c κs = search needs
 
 returns-2 : tie.Need-returns-2
-returns-2 c = c .check-fields .ensures ∙ sym (past-marks _ (sym (c .before .before .badly-marked .ensures) ∙ c .before .if1 .left))
+returns-2 c = c .check-fields .ensures ∙ sym (past-marks _ _ (sym (c .before .before .badly-marked .ensures) ∙ c .before .if1 .left))
 
 pub check-record-spec : {M : Type 1} → statement M
 check-record-spec =

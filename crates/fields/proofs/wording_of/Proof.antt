@@ -55,6 +55,12 @@ enum-told-7 c = search needs
 build-timestamp-requires : tie.Need-build-timestamp-requires
 build-timestamp-requires c κs = search needs
 
+enum-told-8 : tie.Need-enum-told-8
+enum-told-8 c = search needs
+
+build-head-serial-requires : tie.Need-build-head-serial-requires
+build-head-serial-requires c κs = search needs
+
 returns : tie.Need-returns
 returns c =
     let p = c .before .before .before .before in
@@ -95,6 +101,11 @@ returns-8 c =
     let p = c .before .before .before .before in
     worded-as (p .args .p) (p .args .d .now) _ _ _ (c .before .enum-told7 .given .1) (c .build-timestamp .ensures (p .args .d .now) (p .pre))
 
+returns-9 : tie.Need-returns-9
+returns-9 c =
+    let p = c .before .before .before .before in
+    worded-as (p .args .p) (p .args .d .now) _ _ _ (c .before .enum-told8 .given .1) (c .build-head-serial .ensures (p .args .d .now) (p .pre))
+
 pub wording-of-spec : {M : Type 1} → statement M
 wording-of-spec =
     tie.close
@@ -115,6 +126,8 @@ wording-of-spec =
     build-module-path-requires
     enum-told-7
     build-timestamp-requires
+    enum-told-8
+    build-head-serial-requires
     returns
     returns-2
     returns-3
@@ -122,4 +135,5 @@ wording-of-spec =
     returns-5
     returns-6
     returns-7
-    returns-8)
+    returns-8
+    returns-9)

@@ -32,6 +32,8 @@ own-ink-spec =
     (λ c. search needs)
     (λ c. search needs)
     (λ c. search needs)
+    (λ c. search needs)
     returns-6
+    (λ c. search needs)
     (λ c. search needs)
     (λ c. search needs))

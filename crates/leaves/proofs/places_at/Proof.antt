@@ -41,6 +41,12 @@ shared-slice-read-t23 c = search needs
 shared-slice-read-t25 : tie.Need-shared-slice-read-t25
 shared-slice-read-t25 c = search needs
 
+shared-slice-read-t27 : tie.Need-shared-slice-read-t27
+shared-slice-read-t27 c = search needs
+
+shared-slice-read-t29 : tie.Need-shared-slice-read-t29
+shared-slice-read-t29 c = search needs
+
 returns : tie.Need-returns
 unfolding placesOf
 returns c = refl
@@ -61,4 +67,6 @@ places-at-spec =
     shared-slice-read-t21
     shared-slice-read-t23
     shared-slice-read-t25
+    shared-slice-read-t27
+    shared-slice-read-t29
     returns)

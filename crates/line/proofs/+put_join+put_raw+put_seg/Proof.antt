@@ -175,7 +175,7 @@ put-raw-put-field-requires : (t : ℕ) → put-raw-lts.Need-put-field-requires (
 put-raw-put-field-requires t c κs = let p = c .before .before .before .before .before .before .before .before .before .before .before .before in let s = p .args .s in let t₀ = p .args .t .now in let d = p .args .d .now in let n = p .args .numbers .now in let cells = p .args .cells .now in let r = recordBy n d in
     let i = p .args .i in
     let k = raw-of-specifier s t₀ r cells i _ (sym (c .before .before .before .before .kind-at .ensures) ∙ c .before .before .kind .given .1) in
-    ((p .pre .1 .0 .twelve, p .pre .1 .0 .places), omega (arith, p .pre .1 .1 .1 .0, ap length k))
+    ((p .pre .1 .0 .row, p .pre .1 .0 .places), omega (arith, p .pre .1 .1 .1 .0, ap length k))
 
 put-raw-same-length : (t : ℕ) → put-raw-lts.Need-same-length (put-raw-calls t) (put-raw-at t) put-raw.Post
 put-raw-same-length t c = search needs
@@ -206,7 +206,7 @@ put-raw-returns-3 t c = let p = c .before .before .before .before .before .befor
 
 put-seg-is-bare-requires : (t : ℕ) → put-seg-lts.Need-is-bare-requires (put-seg-calls t) (put-seg-at t) put-seg.Post
 put-seg-is-bare-requires t c κs = let p = c .before .before .before .before .before .before .before in
-    (p .pre .1 .0 .pool, (omega (arith, p .pre .1 .0 .few), p .pre .1 .0 .twelve))
+    (p .pre .1 .0 .pool, (omega (arith, p .pre .1 .0 .few), p .pre .1 .0 .row))
 
 put-seg-put-raw-requires : (t : ℕ) → put-seg-lts.Need-put-raw-requires (put-seg-calls t) (put-seg-at t) put-seg.Post
 put-seg-put-raw-requires t c κs = let p = c .before .before .before .before .before .before .before .before .before .before in let s = p .args .s in let t₀ = p .args .t .now in let d = p .args .d .now in let n = p .args .numbers .now in let cells = p .args .cells .now in let table = p .args .table .now in let r = recordBy n d in
@@ -227,7 +227,7 @@ put-seg-frame-at-requires : (t : ℕ) → put-seg-lts.Need-frame-at-requires (pu
 put-seg-frame-at-requires t c κs = let p = c .before .before .before .before .before .before .before .before .before in let n = p .args .numbers .now in let cells = p .args .cells .now in
     let i = p .args .i in let x = segmentAt cells i in
     let q : isBare (sourceBy n) x ≡ false = sym (c .before .is-bare .ensures) ∙ c .if1 .left in
-    ((p .pre .1 .0 .pool, (omega (arith, p .pre .1 .0 .few), p .pre .1 .0 .twelve)), (q, omega (arith, p .pre .1 .1 .0 .room)))
+    ((p .pre .1 .0 .pool, (omega (arith, p .pre .1 .0 .few), p .pre .1 .0 .row)), (q, omega (arith, p .pre .1 .1 .0 .room)))
 
 put-seg-prefix-len-requires : (t : ℕ) → put-seg-lts.Need-prefix-len-requires (put-seg-calls t) (put-seg-at t) put-seg.Post
 put-seg-prefix-len-requires t c κs = tt

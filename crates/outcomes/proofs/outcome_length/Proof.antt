@@ -20,7 +20,7 @@ enum-known-a c = search needs
 add-result : tie.Need-add-result
 add-result c =
     let a = c .before .before .before .before .before .before .before .args in
-    let m = measured (a .s) (a .t .now) (chainAt (a .cells .now) (a .n)) (laidOut (a .d .now)) (c .before .a .given .0 .0) (sym (c .before .a .given .1) ∙ c .before .before .before .measure-record .ensures) in
+    let m = measured (a .form) (a .s) (a .t .now) (chainAt (a .cells .now) (a .n)) (laidOut (a .form) (a .d .now)) (c .before .a .given .0 .0) (sym (c .before .a .given .1) ∙ c .before .before .before .measure-record .ensures) in
     omega (arith, m)
 
 enum-known-a-2 : tie.Need-enum-known-a-2
@@ -32,13 +32,13 @@ refusal-length-requires c κs = search needs
 returns : tie.Need-returns
 returns c =
     let a = c .before .before .before .before .before .before .before .args in
-    let m = measured (a .s) (a .t .now) (chainAt (a .cells .now) (a .n)) (laidOut (a .d .now)) (c .before .a .given .0 .0) (sym (c .before .a .given .1) ∙ c .before .before .before .measure-record .ensures) in
+    let m = measured (a .form) (a .s) (a .t .now) (chainAt (a .cells .now) (a .n)) (laidOut (a .form) (a .d .now)) (c .before .a .given .0 .0) (sym (c .before .a .given .1) ∙ c .before .before .before .measure-record .ensures) in
     (omega (arith, m .0), omega (arith, m .1))
 
 returns-2 : tie.Need-returns-2
 returns-2 c =
     let a = c .before .before .before .before .before .before .before .before .args in
-    let o = recordOutcome (a .s) (a .t .now) (chainAt (a .cells .now) (a .n)) (laidOut (a .d .now)) lineRoom in
+    let o = recordOutcome (a .form) (a .s) (a .t .now) (chainAt (a .cells .now) (a .n)) (laidOut (a .form) (a .d .now)) lineRoom in
     let e = refused-shown o (c .before .before .a2 .given .0 .0) (sym (c .before .before .a2 .given .1) ∙ c .before .before .before .before .measure-record .ensures) in
     (c .refusal-length .ensures .0 ∙ ap length (sym e), omega (arith, c .refusal-length .ensures .1))
 

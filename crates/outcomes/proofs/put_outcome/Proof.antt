@@ -35,7 +35,7 @@ record-line-requires c κs = search needs
 add-put : tie.Need-add-put
 add-put c =
     let a = c .before .before .before .before .before .before .before .before .before .before .before .before .before .args in
-    let m = measured (a .s) (a .t .now) (chainAt (a .cells .now) (a .n)) (laidOut (a .d .now)) (c .before .before .before .before .before .before .a .given .0 .0) (sym (c .before .before .before .before .before .before .a .given .1) ∙ c .before .before .before .before .before .before .before .before .measure-record .ensures) in
+    let m = measured (a .form) (a .s) (a .t .now) (chainAt (a .cells .now) (a .n)) (laidOut (a .form) (a .d .now)) (c .before .before .before .before .before .before .a .given .0 .0) (sym (c .before .before .before .before .before .before .a .given .1) ∙ c .before .before .before .before .before .before .before .before .measure-record .ensures) in
     omega (arith, m .0, c .before .before .before .before .before .before .before .before .before .before .before .before .before .pre .1)
 
 slice-aggregate-put : tie.Need-slice-aggregate-put
@@ -44,7 +44,7 @@ slice-aggregate-put c = search needs
 put-requires : tie.Need-put-requires
 put-requires c κs =
     let a = c .before .before .before .before .before .before .before .before .before .before .before .before .before .before .args in
-    let m = measured (a .s) (a .t .now) (chainAt (a .cells .now) (a .n)) (laidOut (a .d .now)) (c .before .before .before .before .before .before .before .a .given .0 .0) (sym (c .before .before .before .before .before .before .before .a .given .1) ∙ c .before .before .before .before .before .before .before .before .before .measure-record .ensures) in
+    let m = measured (a .form) (a .s) (a .t .now) (chainAt (a .cells .now) (a .n)) (laidOut (a .form) (a .d .now)) (c .before .before .before .before .before .before .before .a .given .0 .0) (sym (c .before .before .before .before .before .before .before .a .given .1) ∙ c .before .before .before .before .before .before .before .before .before .measure-record .ensures) in
     omega (arith, m .0, c .before .before .before .before .before .before .before .before .before .before .before .before .before .before .pre .1, c .before .before .before .out .given)
 
 enum-known-a-2 : tie.Need-enum-known-a-2
@@ -53,7 +53,7 @@ enum-known-a-2 c = search needs
 put-refusal-requires : tie.Need-put-refusal-requires
 put-refusal-requires c κs =
     let a = c .before .before .before .before .before .before .before .before .before .args in
-    let o = recordOutcome (a .s) (a .t .now) (chainAt (a .cells .now) (a .n)) (laidOut (a .d .now)) lineRoom in
+    let o = recordOutcome (a .form) (a .s) (a .t .now) (chainAt (a .cells .now) (a .n)) (laidOut (a .form) (a .d .now)) lineRoom in
     let e = refused-shown o (c .before .before .a2 .given .0 .0) (sym (c .before .before .a2 .given .1) ∙ c .before .before .before .before .measure-record .ensures) in
     omega (arith, ap length e, c .before .before .before .before .before .before .before .before .before .pre .1)
 
@@ -63,9 +63,9 @@ same-length c = search needs
 returns : tie.Need-returns
 returns c =
     let a = c .before .before .before .before .before .before .before .before .before .before .before .before .before .before .before .before .before .args in
-    let m = measured (a .s) (a .t .now) (chainAt (a .cells .now) (a .n)) (laidOut (a .d .now)) (c .before .before .before .before .before .before .before .before .before .before .a .given .0 .0) (sym (c .before .before .before .before .before .before .before .before .before .before .a .given .1) ∙ c .before .before .before .before .before .before .before .before .before .before .before .before .measure-record .ensures) in
-    let w = line-written (a .s) (a .t .now) (chainAt (a .cells .now) (a .n)) (laidOut (a .d .now)) (c .before .before .before .before .before .before .before .before .before .before .a .given .0 .0) (sym (c .before .before .before .before .before .before .before .before .before .before .a .given .1) ∙ c .before .before .before .before .before .before .before .before .before .before .before .before .measure-record .ensures) in
-    (omega (arith, m .0, c .before .before .put .ensures .0), w (a .out .now) (c .before .before .before .before .before .before .before .record-line .last .1 .1 .1 .1 .1 .0) (c .before .before .put .last .0) (a .at) (c .before .before .before .before .before .before .before .before .before .before .before .before .before .before .before .before .before .pre .1) (c .before .before .before .before .before .before .before .record-line .ensures .1) (c .before .before .put .ensures .1))
+    let m = measured (a .form) (a .s) (a .t .now) (chainAt (a .cells .now) (a .n)) (laidOut (a .form) (a .d .now)) (c .before .before .before .before .before .before .before .before .before .before .a .given .0 .0) (sym (c .before .before .before .before .before .before .before .before .before .before .a .given .1) ∙ c .before .before .before .before .before .before .before .before .before .before .before .before .measure-record .ensures) in
+    let w = line-written (a .form) (a .s) (a .t .now) (chainAt (a .cells .now) (a .n)) (laidOut (a .form) (a .d .now)) (c .before .before .before .before .before .before .before .before .before .before .a .given .0 .0) (sym (c .before .before .before .before .before .before .before .before .before .before .a .given .1) ∙ c .before .before .before .before .before .before .before .before .before .before .before .before .measure-record .ensures) in
+    (omega (arith, m .0, c .before .before .put .ensures .0), w (a .out .now) (c .before .before .before .before .before .before .before .record-line .last .1 .1 .1 .1 .1 .1 .0) (c .before .before .put .last .0) (a .at) (c .before .before .before .before .before .before .before .before .before .before .before .before .before .before .before .before .before .pre .1) (c .before .before .before .before .before .before .before .record-line .ensures .1) (c .before .before .put .ensures .1))
 
 same-length-2 : tie.Need-same-length-2
 same-length-2 c = search needs
@@ -73,7 +73,7 @@ same-length-2 c = search needs
 returns-2 : tie.Need-returns-2
 returns-2 c =
     let a = c .before .before .before .before .before .before .before .before .before .before .before .before .args in
-    let o = recordOutcome (a .s) (a .t .now) (chainAt (a .cells .now) (a .n)) (laidOut (a .d .now)) lineRoom in
+    let o = recordOutcome (a .form) (a .s) (a .t .now) (chainAt (a .cells .now) (a .n)) (laidOut (a .form) (a .d .now)) lineRoom in
     let e = refused-shown o (c .before .before .before .before .before .a2 .given .0 .0) (sym (c .before .before .before .before .before .a2 .given .1) ∙ c .before .before .before .before .before .before .before .measure-record .ensures) in
     (c .before .before .put-refusal .ensures .0 ∙ ap (λ (l : List ℕ). a .at + length l) (sym e), c .before .before .put-refusal .ensures .1 ∙ ap (putAt (a .out .now) (a .at)) (sym e))
 

@@ -167,7 +167,7 @@ raw-of-add-field-requires : (t : ℕ) → raw-of-lts.Need-add-field-requires (ra
 raw-of-add-field-requires t c κs = let p = c .before .before .before .before .before .before .before .before .before .before in let s = p .args .s in let t₀ = p .args .t .now in let d = p .args .d .now in let n = p .args .numbers .now in let cells = p .args .cells .now in let r = recordBy n d in
     let i = p .args .i in
     let k = raw-of-specifier s t₀ r cells i _ (sym (c .before .before .before .kind-at .ensures) ∙ c .before .kind .given .1) in
-    ((p .pre .1 .0 .twelve, p .pre .1 .0 .places), ((p .pre .1 .1 .1 .0 .0), omega (arith, p .pre .1 .1 .1 .0 .1, ap length k)))
+    ((p .pre .1 .0 .row, p .pre .1 .0 .places), ((p .pre .1 .1 .1 .0 .0), omega (arith, p .pre .1 .1 .1 .0 .1, ap length k)))
 
 raw-of-returns : (t : ℕ) → raw-of-lts.Need-returns (raw-of-calls t) (raw-of-at t) raw-of.Post
 raw-of-returns t c = let p = c .before .before .before .before .before .before .before .before .before .before in let s = p .args .s in let t₀ = p .args .t .now in let d = p .args .d .now in let n = p .args .numbers .now in let cells = p .args .cells .now in let r = recordBy n d in
@@ -189,7 +189,7 @@ raw-of-returns-3 t c = let p = c .before .before .before .before .before .before
 
 seg-of-is-bare-requires : (t : ℕ) → seg-of-lts.Need-is-bare-requires (seg-of-calls t) (seg-of-at t) seg-of.Post
 seg-of-is-bare-requires t c κs = let p = c .before .before .before .before .before .before in
-    (p .pre .1 .0 .pool, (omega (arith, p .pre .1 .0 .few), p .pre .1 .0 .twelve))
+    (p .pre .1 .0 .pool, (omega (arith, p .pre .1 .0 .few), p .pre .1 .0 .row))
 
 seg-of-raw-of-requires : (t : ℕ) → seg-of-lts.Need-raw-of-requires (seg-of-calls t) (seg-of-at t) seg-of.Post
 seg-of-raw-of-requires t c κs = let p = c .before .before .before .before .before .before .before .before in let s = p .args .s in let t₀ = p .args .t .now in let d = p .args .d .now in let n = p .args .numbers .now in let cells = p .args .cells .now in let table = p .args .table .now in let r = recordBy n d in
@@ -207,7 +207,7 @@ seg-of-frame-at-requires : (t : ℕ) → seg-of-lts.Need-frame-at-requires (seg-
 seg-of-frame-at-requires t c κs = let p = c .before .before .before .before .before .before .before .before in let n = p .args .numbers .now in let cells = p .args .cells .now in
     let i = p .args .i in let x = segmentAt cells i in
     let q : isBare (sourceBy n) x ≡ false = sym (c .before .is-bare .ensures) ∙ c .if1 .left in
-    ((p .pre .1 .0 .pool, (omega (arith, p .pre .1 .0 .few), p .pre .1 .0 .twelve)), (q, omega (arith, p .pre .1 .1 .0 .room)))
+    ((p .pre .1 .0 .pool, (omega (arith, p .pre .1 .0 .few), p .pre .1 .0 .row)), (q, omega (arith, p .pre .1 .1 .0 .room)))
 
 seg-of-opened-requires : (t : ℕ) → seg-of-lts.Need-opened-requires (seg-of-calls t) (seg-of-at t) seg-of.Post
 seg-of-opened-requires t c κs = let p = c .before .before .before .before .before .before .before .before .before .before in let s = p .args .s in let t₀ = p .args .t .now in let d = p .args .d .now in let n = p .args .numbers .now in let cells = p .args .cells .now in let table = p .args .table .now in let r = recordBy n d in

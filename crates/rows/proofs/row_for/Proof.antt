@@ -15,7 +15,7 @@ use Rattle.rows.proofs.row_for.Tie as tie
 
 is-bare-requires : tie.Need-is-bare-requires
 is-bare-requires c κs = let p = c .before .before .before .before .before .before in
-    (p .pre .0 .pool, (omega (arith, p .pre .0 .few), p .pre .0 .twelve))
+    (p .pre .0 .pool, (omega (arith, p .pre .0 .few), p .pre .0 .row))
 
 raw-len-requires : tie.Need-raw-len-requires
 raw-len-requires c κs = let p = c .before .before .before .before .before .before .before .before in let s = p .args .s in let t₀ = p .args .t .now in let d = p .args .d .now in let n = p .args .numbers .now in let cells = p .args .cells .now in
@@ -34,7 +34,7 @@ format-of-requires : tie.Need-format-of-requires
 format-of-requires c κs = let p = c .before .before .before .before .before .before .before .before in let n = p .args .numbers .now in let cells = p .args .cells .now in
     let i = p .args .i in let x = segmentAt cells i in
     let q : isBare (sourceBy n) x ≡ false = sym (c .before .is-bare .ensures) ∙ c .if1 .left in
-    ((p .pre .0 .pool, (omega (arith, p .pre .0 .few), p .pre .0 .twelve)), q)
+    ((p .pre .0 .pool, (omega (arith, p .pre .0 .few), p .pre .0 .row)), q)
 
 prefix-len-requires : tie.Need-prefix-len-requires
 prefix-len-requires c κs = search needs

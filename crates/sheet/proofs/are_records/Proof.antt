@@ -12,10 +12,10 @@ use Rattle.sheet.proofs.are_records.Statement.{statement}
 use Rattle.sheet.proofs.are_records.Tie as tie
 
 abbrev Inv-loop : tie.InvT-loop
-Inv-loop d n contents from left₀ i₀ j₀ left i j = Left left d i j × (areRecords (bodiesFrom left d i j) ≡ areRecords (bodiesFrom n d contents from))
+Inv-loop form d n contents from left₀ i₀ j₀ left i j = Left left d i j × (areRecords form (bodiesFrom left d i j) ≡ areRecords form (bodiesFrom n d contents from))
 
 abbrev μ-loop : tie.MeasureT-loop
-μ-loop d n contents from left₀ i₀ j₀ left i j = left
+μ-loop form d n contents from left₀ i₀ j₀ left i j = left
 
 loop-holds : tie.Need-loop-holds Inv-loop μ-loop
 loop-holds c = (record { lengths = c .before .pre .0; whole = c .before .pre .1 }, refl)
@@ -66,29 +66,34 @@ loop-less c = search needs
 loop-again : tie.Need-loop-again Inv-loop μ-loop
 loop-again c =
     let l = c .before .before .before .before .before .loop in
-    let d = c .before .before .before .before .before .before .before .args .d .now in
+    let p = c .before .before .before .before .before .before .before in
+    let form = p .args .form in
+    let d = p .args .d .now in
     let more : l .left ≡ suc (l .left - 1) = omega (arith, c .before .before .before .before .loop-test .taken) in
     let e = c .before .before .before .body-length .ensures .0 in
-    let f : rightSize (part (l .j) (l .j + u32 d (l .i)) d) ≡ true =
-    ap (λ (k : ℕ). rightSize (part (l .j) (l .j + k) d)) (sym e) ∙ sym (c .before .right-size .ensures) ∙ c .if1 .taken in (
+    let f : rightSize form (part (l .j) (l .j + u32 d (l .i)) d) ≡ true =
+    ap (λ (k : ℕ). rightSize form (part (l .j) (l .j + k) d)) (sym e) ∙ sym (c .before .right-size .ensures) ∙ c .if1 .taken in (
       subst (λ (k : ℕ). Left (l .left - 1) d (l .i + 4) (l .j + k)) (sym e) (next-left (l .left) (l .left - 1) d (l .i) (l .j) more (l .inv .0)),
-      ap (λ (k : ℕ). areRecords (bodiesFrom (l .left - 1) d (l .i + 4) (l .j + k))) e ∙ sym (records-go-on (l .left) (l .left - 1) d (l .i) (l .j) more f) ∙ l .inv .1,
+      ap (λ (k : ℕ). areRecords form (bodiesFrom (l .left - 1) d (l .i + 4) (l .j + k))) e ∙ sym (records-go-on (l .left) (l .left - 1) d (l .i) (l .j) more form f) ∙ l .inv .1,
     )
 
 returns : tie.Need-returns Inv-loop μ-loop
 returns c =
     let l = c .before .before .before .before .before .loop in
-    let d = c .before .before .before .before .before .before .before .args .d .now in
+    let p = c .before .before .before .before .before .before .before in
+    let form = p .args .form in
+    let d = p .args .d .now in
     let more : l .left ≡ suc (l .left - 1) = omega (arith, c .before .before .before .before .loop-test .taken) in
     let e = c .before .before .before .body-length .ensures .0 in
-    let f : rightSize (part (l .j) (l .j + u32 d (l .i)) d) ≡ false =
-    ap (λ (k : ℕ). rightSize (part (l .j) (l .j + k) d)) (sym e) ∙ sym (c .before .right-size .ensures) ∙ c .if1 .left in
-    sym (records-stop (l .left) (l .left - 1) d (l .i) (l .j) more f) ∙ l .inv .1
+    let f : rightSize form (part (l .j) (l .j + u32 d (l .i)) d) ≡ false =
+    ap (λ (k : ℕ). rightSize form (part (l .j) (l .j + k) d)) (sym e) ∙ sym (c .before .right-size .ensures) ∙ c .if1 .left in
+    sym (records-stop (l .left) (l .left - 1) d (l .i) (l .j) more form f) ∙ l .inv .1
 
 returns-2 : tie.Need-returns-2 Inv-loop μ-loop
 returns-2 c =
     let l = c .before .loop in
-    sym (records-end (l .left) (c .before .before .before .args .d .now) (l .i) (l .j) (omega (arith, c .loop-test .left))) ∙ l .inv .1
+    let p = c .before .before .before in
+    sym (records-end (l .left) (p .args .d .now) (l .i) (l .j) (omega (arith, c .loop-test .left)) (p .args .form)) ∙ l .inv .1
 
 pub are-records-spec : {M : Type 1} → statement M
 are-records-spec =

@@ -1,14 +1,16 @@
 -- `sheet::is_sheet` meets its contract. Assumes nothing.
 use borrow.Author.Needs.{needs}
 use native.Mathlib.Omega.{arith}
-use Prim.Native.Nat.{ℕ, _+_, _-_, _*_, _≤_}
+use Prim.Native.Nat.{ℕ, _+_, _-_, _*_, _≤_, _<_}
 use mathlib.Core.Path.{_≡_, sym, ap, _∙_}
 use mathlib.Core.List.{List}
 use mathlib.Core.Bool.{Bool, true, false, _&&_}
 use Rattle.buffer.specs.Bytes.{part}
 use lib.ListN.{length}
-use Rattle.sheet.specs.Sheets.{bodyCount, contentsEnd, bodyBytes, bodiesFrom, isHead, areRecords, isSheet}
+use Rattle.sheet.specs.Sheets.{bodyCount, contentsEnd, bodyBytes, bodiesFrom, isHead, formIn, areRecords, isSheet}
 use Rattle.sheet.proofs.Standing.{too-long, too-short, no-body, cut-off, not-whole, contents-end}
+use Rattle.record.specs.declared.Form.{Form}
+use Rattle.sheet.proofs.Heads.{has-byte, head-form}
 use Rattle.sheet.proofs.Reading.{Read, first-fits, others-left, left-to-see}
 use Rattle.sheet.proofs.is_sheet.Statement.{statement}
 use Rattle.sheet.proofs.is_sheet.Tie as tie
@@ -19,6 +21,7 @@ use Rattle.sheet.proofs.bodies_end.Reads as bodies-end-reads
 use Rattle.sheet.proofs.body_count.Reads as body-count-reads
 use Rattle.sheet.proofs.body_length.Reads as body-length-reads
 use Rattle.sheet.proofs.is_head.Reads as is-head-reads
+use Rattle.settings.proofs.form_of.Reads as form-of-reads
 
 abbrev Contents : Type 0
 Contents =
@@ -31,6 +34,8 @@ Contents =
       body-length-reads.Learnt,
       is-head-reads.Asked,
       is-head-reads.Learnt,
+      form-of-reads.Asked,
+      form-of-reads.Learnt,
       are-records-reads.Asked,
       are-records-reads.Learnt,
     ) reads.Pre reads.Post
@@ -58,9 +63,9 @@ read c = record {
 
 -- the verdict on body 0, then the one on the records
 seen : (c : Contents) (head : Bool) → head ≡ isHead (part (2 + 4 * n c) (2 + 4 * n c + k c) (d c))
-    → (head && areRecords (bodiesFrom (n c - 1) (d c) 6 (2 + 4 * n c + k c))) ≡ isSheet (d c)
+    → (head && areRecords (formIn (part (2 + 4 * n c) (2 + 4 * n c + k c) (d c))) (bodiesFrom (n c - 1) (d c) 6 (2 + 4 * n c + k c))) ≡ isSheet (d c)
 seen c head e =
-    ap (λ (t : Bool). t && areRecords (bodiesFrom (n c - 1) (d c) 6 (2 + 4 * n c + k c))) e ∙ sym (left-to-see (d c) (n c) (k c) (read c))
+    ap (λ (t : Bool). t && areRecords (formIn (part (2 + 4 * n c) (2 + 4 * n c + k c) (d c))) (bodiesFrom (n c - 1) (d c) 6 (2 + 4 * n c + k c))) e ∙ sym (left-to-see (d c) (n c) (k c) (read c))
 
 returns : tie.Need-returns
 returns c = sym (too-long (c .before .before .args .d .now) (c .if1 .taken))
@@ -127,19 +132,36 @@ part-is-head-end c = first-fits (d c) (n c) (k c) (read c)
 is-head-requires : tie.Need-is-head-requires
 is-head-requires c κs = search needs
 
+-- where body 0 can be one: it has a byte
+some-byte : (c : Contents) (head : Bool) → head ≡ isHead (part (2 + 4 * n c) (2 + 4 * n c + k c) (d c)) → head ≡ true → 0 < k c
+some-byte c head e t = has-byte (d c) (2 + 4 * n c) (k c) (first-fits (d c) (n c) (k c) (read c)) (sym e ∙ t)
+
+shared-slice-read-form-of : tie.Need-shared-slice-read-form-of
+shared-slice-read-form-of c =
+    let x = c .before .before .before .before in
+    omega (arith, first-fits (d x) (n x) (k x) (read x), some-byte x _ (c .before .before .is-head .ensures) (c .before .if6 .taken))
+
+form-of-requires : tie.Need-form-of-requires
+form-of-requires c κs = search needs
+
 sub-are-records : tie.Need-sub-are-records
 sub-are-records c = search needs
 
 are-records-requires : tie.Need-are-records-requires
 are-records-requires c κs =
-    let x = c .before .before .before in
+    let x = c .before .before .before .before .before in
     let l = others-left (d x) (n x) (k x) (read x) in
     (l .lengths, l .whole)
 
 returns-6 : tie.Need-returns-6
 returns-6 c =
-    let x = c .before .before .before .before in
-    c .are-records .ensures ∙ seen x true (sym (c .before .if6 .taken) ∙ c .before .before .is-head .ensures)
+    let x = c .before .before .before .before .before .before in
+    let head = c .before .before .before .before .is-head in
+    let b = some-byte x _ (head .ensures) (c .before .before .before .if6 .taken) in
+    let form = c .before .form-of .ensures ∙ sym (head-form (d x) (2 + 4 * n x) (k x) (first-fits (d x) (n x) (k x) (read x)) b) in
+    c .are-records .ensures
+    ∙ ap (λ (f : Form). areRecords f (bodiesFrom (n x - 1) (d x) 6 (2 + 4 * n x + k x))) form
+    ∙ seen x true (sym (c .before .before .before .if6 .taken) ∙ head .ensures)
 
 returns-7 : tie.Need-returns-7
 returns-7 c = seen (c .before .before .before) false (sym (c .if6 .left) ∙ c .before .is-head .ensures)
@@ -163,6 +185,8 @@ is-sheet-spec =
     part-is-head-start
     part-is-head-end
     is-head-requires
+    shared-slice-read-form-of
+    form-of-requires
     sub-are-records
     are-records-requires
     returns-6

@@ -90,7 +90,7 @@ fn other(rng: &mut Rng) -> &'static str {
 }
 
 /// Before and behind a character: behind a specifier, at the front of a group, behind a colour word and before one.
-const PLACES: [(&str, &str); 4] = [("{s", "}"), ("{", "{s}}"), ("{s:red", "}"), ("{s:", "red}")];
+pub const PLACES: [(&str, &str); 4] = [("{s", "}"), ("{", "{s}}"), ("{s:red", "}"), ("{s:", "red}")];
 
 /// Surrogates are none.
 const CHARACTERS: u64 = 0x11_0000 - 0x800;

@@ -8,7 +8,7 @@ const TOKENS: [&str; 5] = [".", "..", "/", "a", ".a"];
 /// Of up to this many tokens.
 const LONGEST: u32 = 7;
 
-const TEMPLATES: [&str; 4] = ["{f}|{s}", "{ff}|{s}", "{fff}|{s}", "{ffff}|{s}"];
+pub const TEMPLATES: [&str; 4] = ["{f}|{s}", "{ff}|{s}", "{fff}|{s}", "{ffff}|{s}"];
 
 /// How many there are.
 pub fn count() -> u64 {

@@ -1,8 +1,8 @@
 //! Records of every shape, also such as are refused.
 
-use super::edges;
+use super::{edges, heads};
 use crate::sample::random::Rng;
-use crate::sheet::{Record, FILE, LINE, MODULE};
+use crate::sheet::{Layout, Record, FILE, HEAD, LENGTHS, LINE, MODULE};
 
 const FILES: &[&str] =
     &["", ".", "./", "./a", "././a/b.rs", ".//a", "./..", "/.", "//a//b//", "/../a", "a/./.", "é/ü.rs", "/", ".."];
@@ -37,17 +37,22 @@ const PIECES: &[&str] = &[
     " ",
 ];
 
-pub fn record(rng: &mut Rng) -> Vec<u8> {
+/// Beside a serial that is wrong: which comes first?
+const WRONG: &[&[u8]] = &[b"\xff", &[0xff; 4097], &[b'm'; 4097], &[b'm'; 4096]];
+
+/// Made for the layout, which may have no place for what it says of a head.
+pub fn record(rng: &mut Rng, layout: Layout) -> Vec<u8> {
     let mut record = rng.record();
-    match rng.below(20) {
+    heads::give(rng, layout, &mut record);
+    match rng.below(22) {
         0 | 1 => impossible(rng, &mut record),
         2 => {
             let text = long(rng);
-            *any_field(rng, &mut record) = text;
+            *any_field(rng, layout, &mut record) = text;
         }
         3 => {
             let text = edges::text(rng);
-            *any_field(rng, &mut record) = text;
+            *any_field(rng, layout, &mut record) = text;
         }
         4 | 5 => {
             record.mask |= FILE;
@@ -56,17 +61,25 @@ pub fn record(rng: &mut Rng) -> Vec<u8> {
         6 => record.message = rng.pick(DIFFS).into(),
         7..=10 => {
             let text = mixed(rng);
-            *any_field(rng, &mut record) = text;
+            *any_field(rng, layout, &mut record) = text;
         }
-        11 => return of_wrong_size(rng, &record),
+        11 => return of_wrong_size(rng, &record, layout),
+        12 | 13 if layout == Layout::New => {
+            record.mask |= HEAD;
+            record.head = heads::serial(rng);
+            if rng.one_in(3) {
+                let other = rng.pick(WRONG).to_vec();
+                *any_field(rng, layout, &mut record) = other;
+            }
+        }
         _ => {}
     }
-    record.write()
+    record.write(layout)
 }
 
-/// One of the four, and present.
-fn any_field<'a>(rng: &mut Rng, record: &'a mut Record) -> &'a mut Vec<u8> {
-    match rng.below(6) {
+/// One of those that the layout has, and present.
+fn any_field<'a>(rng: &mut Rng, layout: Layout, record: &'a mut Record) -> &'a mut Vec<u8> {
+    match rng.below(7) {
         0 => {
             record.mask |= FILE;
             &mut record.file
@@ -76,6 +89,10 @@ fn any_field<'a>(rng: &mut Rng, record: &'a mut Record) -> &'a mut Vec<u8> {
             &mut record.module
         }
         2 => &mut record.timestamp,
+        3 if layout == Layout::New => {
+            record.mask |= HEAD;
+            &mut record.head
+        }
         _ => &mut record.message,
     }
 }
@@ -83,14 +100,15 @@ fn any_field<'a>(rng: &mut Rng, record: &'a mut Record) -> &'a mut Vec<u8> {
 /// Each way that refusal 14 names, and its near misses.
 fn impossible(rng: &mut Rng, record: &mut Record) {
     let byte = rng.below(256) as u8;
-    match rng.below(8) {
+    match rng.below(10) {
         0 => record.source = *rng.pick(&[&1, &2, &byte]),
         1 => record.level = *rng.pick(&[&0, &5, &6, &byte]),
-        2 => record.mask = *rng.pick(&[&7, &8, &byte]),
-        3 => (record.source, record.level) = (1, 0),
-        4 => record.mask &= !FILE,
-        5 => record.mask &= !LINE,
-        6 => record.mask &= !MODULE,
+        2 | 3 => record.mask = *rng.pick(&[&7, &8, &15, &16, &23, &24, &byte]),
+        4 => (record.source, record.level) = (1, 0),
+        5 => record.mask &= !FILE,
+        6 => record.mask &= !LINE,
+        7 => record.mask &= !MODULE,
+        8 => record.mask ^= HEAD,
         _ => (record.source, record.level, record.mask) = (byte & 3, byte >> 2 & 7, byte >> 4),
     }
 }
@@ -113,14 +131,18 @@ fn mixed(rng: &mut Rng) -> Vec<u8> {
     (0..rng.below(pieces)).flat_map(|_| rng.pick(PIECES).bytes()).collect()
 }
 
-fn of_wrong_size(rng: &mut Rng, record: &Record) -> Vec<u8> {
-    let mut bytes = record.write();
-    match rng.below(4) {
+/// Among them a record of one layout that is of a right size in the other.
+fn of_wrong_size(rng: &mut Rng, record: &Record, layout: Layout) -> Vec<u8> {
+    let mut bytes = record.write(layout);
+    let numbers = Layout::Old.numbers();
+    match rng.below(6) {
         0 => bytes.push(b'x'),
         1 => bytes.truncate(rng.below(bytes.len())),
         2 => bytes.clear(),
+        3 => drop(bytes.splice(numbers..numbers, [0, 0])),
+        4 => drop(bytes.drain(numbers..bytes.len().min(numbers + 2))),
         _ => {
-            let length = 7 + rng.below(8);
+            let length = LENGTHS + rng.below(layout.numbers() - LENGTHS);
             bytes[length] = bytes[length].wrapping_add(1);
         }
     }

@@ -1,8 +1,8 @@
 //! Whole sheets, half of them damaged.
 
-use super::{crossed, records, strict};
+use super::{crossed, heads, records, strict};
 use crate::sample::random::Rng;
-use crate::sheet::{write_bodies, Record, Sheet};
+use crate::sheet::{write_bodies, Layout, Record, Sheet};
 
 /// Refusal 15 above it.
 const MOST: usize = 65536;
@@ -19,19 +19,25 @@ pub fn sheet(rng: &mut Rng) -> Vec<u8> {
     }
 }
 
-/// Settings and template, then up to three records.
+/// Settings and template, then up to three records, now and then in the other layout.
 fn bodies(rng: &mut Rng) -> Vec<Vec<u8>> {
-    let template = match rng.below(4) {
+    let template = match rng.below(5) {
         0 => crossed::template(rng),
         1 => strict::template(rng),
+        2 => heads::template(rng),
         _ => rng.template(2).into_bytes(),
     };
-    let settings = rng.below(8) as u8;
+    let settings = any_settings(rng);
     let mut bodies = vec![[&[settings], &template[..]].concat()];
     for _ in 0..rng.below(4) {
-        bodies.push(records::record(rng));
+        let layout = if rng.one_in(40) { heads::layout(rng) } else { Layout::of(settings) };
+        bodies.push(records::record(rng, layout));
     }
     bodies
+}
+
+fn any_settings(rng: &mut Rng) -> u8 {
+    rng.below(16) as u8
 }
 
 fn damaged_bodies(rng: &mut Rng, mut bodies: Vec<Vec<u8>>) -> Vec<Vec<u8>> {
@@ -64,10 +70,10 @@ fn damaged(rng: &mut Rng, mut sheet: Vec<u8>) -> Vec<u8> {
 
 /// At the size of a sheet, at the size of the program's buffer, or at the widest that Rust's formatter takes.
 fn large(rng: &mut Rng) -> Vec<u8> {
-    let settings = rng.below(8) as u8;
+    let settings = any_settings(rng);
     let many = "{s}".repeat(15 + rng.below(3));
     let (template, records) = match rng.below(3) {
-        0 => ("{s}".to_string(), filling(rng)),
+        0 => ("{s}".to_string(), filling(rng, settings)),
         1 => (many + rng.pick(&["", "x", "{s:9}"]), vec![saying(vec![b'm'; 4094 + rng.below(4)]), saying(vec![])]),
         _ => (format!("{{{many}}}"), vec![saying(b"\x1b[0m".repeat(1023 + rng.below(2)))]),
     };
@@ -79,10 +85,10 @@ fn saying(message: Vec<u8>) -> Record {
 }
 
 /// Records with which a sheet of `{s}` has one byte less than it may, as many, or one more.
-fn filling(rng: &mut Rng) -> Vec<Record> {
+fn filling(rng: &mut Rng, settings: u8) -> Vec<Record> {
     let mut records = vec![saying(vec![b'm'; 4096]); 15];
     records.push(saying(vec![]));
-    let sheet = Sheet { settings: 0, template: b"{s}".to_vec(), records: records.clone() };
+    let sheet = Sheet { settings, template: b"{s}".to_vec(), records: records.clone() };
     records[15].message = vec![b'm'; MOST - sheet.write().len() - 1 + rng.below(3)];
     records
 }

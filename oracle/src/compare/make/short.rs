@@ -1,5 +1,6 @@
 //! Every short string of tokens, in five places of a template.
 
+use super::heads;
 use crate::sheet::{Record, FILE, HOST, LINE, MODULE};
 
 /// Braces, separators, a name of each kind, digits, a letter beyond ASCII, a plain byte.
@@ -35,10 +36,10 @@ fn string(seed: u64, mut number: u64) -> String {
     (0..length).map(|i| TOKENS[(number / tokens.pow(i) % tokens) as usize]).collect()
 }
 
-/// Every field is there and no two show the same; in turn with and without a reset in the message.
-pub fn record(nth: u64) -> Record {
+/// Every field is there and no two show the same; in turn with and without a reset in the message, and in either layout.
+pub fn record(nth: u64) -> Vec<u8> {
     let message = if nth % 3 == 0 { "w\x1b[0mall" } else { "wall" };
-    Record {
+    let record = Record {
         source: if nth % 11 == 0 { HOST } else { 0 },
         level: 1 + (nth % 7 % 5) as u8,
         mask: FILE | LINE | MODULE,
@@ -47,5 +48,7 @@ pub fn record(nth: u64) -> Record {
         module: b"scan::head".to_vec(),
         timestamp: b"0.25".to_vec(),
         message: message.into(),
-    }
+        ..Record::default()
+    };
+    heads::in_turn(nth, record)
 }

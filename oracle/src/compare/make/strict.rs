@@ -1,7 +1,7 @@
 //! Templates that are read and leave something unused, or nearly do: of chance, and systematically.
 
 use super::crossed::{put_before, put_behind};
-use super::tokens;
+use super::tokens::Templates;
 use crate::examples::STRICT;
 use crate::sample::random::Rng;
 
@@ -46,65 +46,24 @@ pub fn template(rng: &mut Rng) -> Vec<u8> {
     template.into_bytes()
 }
 
-/// Braces and separators, names, parameters, whole braces, and bytes that are none of it.
-const TOKENS: [&str; 20] = [
-    "{", "}", ":", "%", "\\", "{s}", "{L}", "s", "L", "bold", "red", "7", "<5", "x", " ", "é", "{x", "{bold:", "%bold",
-    "[",
-];
-
-/// Strings of up to so many tokens stand in each place.
-const LONGEST: u32 = 4;
-
-/// Alone and behind a message; the content of a brace at odd and at even depth, from its beginning, behind a name and behind a
-/// parameter's separator; the tail of a group.
-const PLACES: [(&str, &str); 9] = [
-    ("", ""),
-    ("{s}", ""),
-    ("{", "}{s}"),
-    ("{s", "}"),
-    ("{bold:", "}{s}"),
-    ("{x{", "}}{s}"),
-    ("{x{L", "}}{s}"),
-    ("{x{L%", "}}{s}"),
-    ("{[{s}]", "}"),
-];
-
-/// What can be done to a character of an example: each token before it or instead of it, or nothing instead of it.
-const EDITS: u64 = 2 * TOKENS.len() as u64 + 1;
-
-/// How many there are: every string in every place, and every edit of every character.
-pub fn count() -> u64 {
-    strings() + EDITS * characters().count() as u64
-}
-
-pub fn nth_template(nth: u64) -> String {
-    if nth < strings() {
-        let places = PLACES.len() as u64;
-        let (before, after) = PLACES[(nth % places) as usize];
-        return [before, &tokens::string(&TOKENS, nth / places), after].concat();
-    }
-    let nth = nth - strings();
-    let (before, character, after) = characters().nth((nth / EDITS) as usize).expect("a character of an example");
-    let edit = nth % EDITS;
-    match TOKENS.get(edit as usize / 2) {
-        None => [before, after].concat(),
-        Some(token) if edit % 2 == 0 => [before, token, after].concat(),
-        Some(token) => [before, token, character, after].concat(),
-    }
-}
-
-fn strings() -> u64 {
-    tokens::count(&TOKENS, LONGEST) * PLACES.len() as u64
-}
-
-/// The characters of the examples, each with what stands before it and behind it.
-fn characters() -> impl Iterator<Item = (&'static str, &'static str, &'static str)> {
-    let of = |template: &'static str| {
-        template.char_indices().map(move |(at, character)| {
-            let (before, from) = template.split_at(at);
-            let (character, after) = from.split_at(character.len_utf8());
-            (before, character, after)
-        })
-    };
-    STRICT.iter().flat_map(move |(template, ..)| of(template))
-}
+/// Braces and separators, names, parameters, whole braces, and bytes that are none of it. Alone and behind a message; the content
+/// of a brace at odd and at even depth, from its beginning, behind a name and behind a parameter's separator; the tail of a group.
+pub const TEMPLATES: Templates = Templates {
+    tokens: &[
+        "{", "}", ":", "%", "\\", "{s}", "{L}", "s", "L", "bold", "red", "7", "<5", "x", " ", "é", "{x", "{bold:",
+        "%bold", "[",
+    ],
+    longest: 4,
+    places: &[
+        ("", ""),
+        ("{s}", ""),
+        ("{", "}{s}"),
+        ("{s", "}"),
+        ("{bold:", "}{s}"),
+        ("{x{", "}}{s}"),
+        ("{x{L", "}}{s}"),
+        ("{x{L%", "}}{s}"),
+        ("{[{s}]", "}"),
+    ],
+    examples: || STRICT.iter().map(|example| example.0).collect(),
+};

@@ -13,16 +13,17 @@ use Rattle.rows.proofs.segment.is_bare_from.Statement.{statement}
 use Rattle.rows.proofs.segment.is_bare_from.Tie as tie
 
 -- the other arm: each of the other variants
-not-log : (q : Source) (m : LogMetadata) → OneOf (0 ∷ 1 ∷ 2 ∷ 3 ∷ 5 ∷ 6 ∷ 7 ∷ []) (tagOf the-type m) → false ≡ bareFrom q m
+not-log : (q : Source) (m : LogMetadata) → OneOf (0 ∷ 1 ∷ 2 ∷ 3 ∷ 5 ∷ 6 ∷ 7 ∷ 8 ∷ []) (tagOf the-type m) → false ≡ bareFrom q m
 unfolding bareFrom
 not-log q LogMetadata.CrateName h = refl
 not-log q (LogMetadata.FileName n) h = refl
 not-log q LogMetadata.FilePath h = refl
 not-log q LogMetadata.LineNumber h = refl
-not-log q LogMetadata.Log h = absurd (miss (0 ∷ 1 ∷ 2 ∷ 3 ∷ 5 ∷ 6 ∷ 7 ∷ []) 4 tt h)
+not-log q LogMetadata.Log h = absurd (miss (0 ∷ 1 ∷ 2 ∷ 3 ∷ 5 ∷ 6 ∷ 7 ∷ 8 ∷ []) 4 tt h)
 not-log q LogMetadata.LogLevel h = refl
 not-log q LogMetadata.ModulePath h = refl
 not-log q LogMetadata.Timestamp h = refl
+not-log q LogMetadata.HeadSerial h = refl
 
 enum-told : tie.Need-enum-told
 enum-told c = search needs

@@ -36,6 +36,9 @@ enum-told-6 c = search needs
 enum-told-7 : tie.Need-enum-told-7
 enum-told-7 c = search needs
 
+enum-told-8 : tie.Need-enum-told-8
+enum-told-8 c = search needs
+
 returns : tie.Need-returns
 returns c = (ap metadataNumber (sym (c .enum-told .given .1)), ap Kind.Specifier (sym (c .enum-told .given .1)))
 
@@ -63,6 +66,9 @@ returns-7 c = (ap metadataNumber (sym (c .enum-told6 .given .1)), ap Kind.Specif
 returns-8 : tie.Need-returns-8
 returns-8 c = (ap metadataNumber (sym (c .enum-told7 .given .1)), ap Kind.Specifier (sym (c .enum-told7 .given .1)))
 
+returns-9 : tie.Need-returns-9
+returns-9 c = (ap metadataNumber (sym (c .enum-told8 .given .1)), ap Kind.Specifier (sym (c .enum-told8 .given .1)))
+
 pub metadata-number-spec : {M : Type 1} → statement M
 metadata-number-spec =
     tie.close
@@ -76,6 +82,7 @@ metadata-number-spec =
     enum-told-5
     enum-told-6
     enum-told-7
+    enum-told-8
     returns
     returns-2
     returns-3
@@ -83,4 +90,5 @@ metadata-number-spec =
     returns-5
     returns-6
     returns-7
-    returns-8)
+    returns-8
+    returns-9)

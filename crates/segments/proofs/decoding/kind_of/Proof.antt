@@ -41,7 +41,10 @@ returns-10 : tie.Need-returns-10
 returns-10 c = sym (ap (entry Kind.Text (kinds _)) (c .match .keys10))
 
 returns-11 : tie.Need-returns-11
-returns-11 c = let r = c .match .rest in sym (entry-past _ (kinds _) _ (above 9 _ (above 8 _ (above 7 _ (above 6 _ (above 5 _ (above 4 _ (above 3 _ (above 2 _ (above 1 _ (above 0 _ (omega arith) (r .0 .0 .0 .0 .0 .0 .0 .0 .0 .1)) (r .0 .0 .0 .0 .0 .0 .0 .0 .1)) (r .0 .0 .0 .0 .0 .0 .0 .1)) (r .0 .0 .0 .0 .0 .0 .1)) (r .0 .0 .0 .0 .0 .1)) (r .0 .0 .0 .0 .1)) (r .0 .0 .0 .1)) (r .0 .0 .1)) (r .0 .1)) (r .1)))
+returns-11 c = sym (ap (entry Kind.Text (kinds _)) (c .match .keys11))
+
+returns-12 : tie.Need-returns-12
+returns-12 c = let r = c .match .rest in sym (entry-past _ (kinds _) _ (above 10 _ (above 9 _ (above 8 _ (above 7 _ (above 6 _ (above 5 _ (above 4 _ (above 3 _ (above 2 _ (above 1 _ (above 0 _ (omega arith) (r .0 .0 .0 .0 .0 .0 .0 .0 .0 .0 .1)) (r .0 .0 .0 .0 .0 .0 .0 .0 .0 .1)) (r .0 .0 .0 .0 .0 .0 .0 .0 .1)) (r .0 .0 .0 .0 .0 .0 .0 .1)) (r .0 .0 .0 .0 .0 .0 .1)) (r .0 .0 .0 .0 .0 .1)) (r .0 .0 .0 .0 .1)) (r .0 .0 .0 .1)) (r .0 .0 .1)) (r .0 .1)) (r .1)))
 
 pub kind-of-spec : {M : Type 1} → statement M
 kind-of-spec =
@@ -58,4 +61,5 @@ kind-of-spec =
     returns-8
     returns-9
     returns-10
-    returns-11)
+    returns-11
+    returns-12)

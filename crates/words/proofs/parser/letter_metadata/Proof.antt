@@ -37,6 +37,9 @@ add-t19 c = search needs
 add-t21 : tie.Need-add-t21
 add-t21 c = search needs
 
+add-t23 : tie.Need-add-t23
+add-t23 c = search needs
+
 returns : tie.Need-returns
 unfolding specifierOf orRepeatedF repeatedF countOfF lookup same
 returns c = letter-fit _ _ 0x63 _ (c .match .keys1) refl tt
@@ -70,10 +73,14 @@ unfolding specifierOf orRepeatedF repeatedF countOfF lookup same
 returns-8 c = letter-fit _ _ 0x74 _ (c .match .keys8) refl tt
 
 returns-9 : tie.Need-returns-9
+unfolding specifierOf orRepeatedF repeatedF countOfF lookup same
+returns-9 c = letter-fit _ _ 0x64 _ (c .match .keys9) refl tt
+
+returns-10 : tie.Need-returns-10
 unfolding tellMetadata MetadataWithin
-returns-9 c =
+returns-10 c =
     let n = c .match .rest in
-    (sym (letter-misfit _ _ (n .0 .0 .0 .0 .0 .0 .0 .1) (n .0 .0 .0 .0 .0 .0 .1) (n .0 .0 .0 .0 .0 .1) (n .0 .0 .0 .0 .1) (n .0 .0 .0 .1) (n .0 .0 .1) (n .0 .1) (n .1)), tt)
+    (sym (letter-misfit _ _ (n .0 .0 .0 .0 .0 .0 .0 .0 .1) (n .0 .0 .0 .0 .0 .0 .0 .1) (n .0 .0 .0 .0 .0 .0 .1) (n .0 .0 .0 .0 .0 .1) (n .0 .0 .0 .0 .1) (n .0 .0 .0 .1) (n .0 .0 .1) (n .0 .1) (n .1)), tt)
 
 pub letter-metadata-spec : {M : Type 1} → statement M
 letter-metadata-spec =
@@ -88,6 +95,7 @@ letter-metadata-spec =
     add-t17
     add-t19
     add-t21
+    add-t23
     returns
     returns-2
     returns-3
@@ -96,4 +104,5 @@ letter-metadata-spec =
     returns-6
     returns-7
     returns-8
-    returns-9)
+    returns-9
+    returns-10)
