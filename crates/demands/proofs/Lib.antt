@@ -2,6 +2,7 @@ pub mod Calls
 pub mod Defined
 pub mod Heads
 pub mod Holds
+pub mod Home
 pub mod Letters
 pub mod Firsts
 pub mod Numbers

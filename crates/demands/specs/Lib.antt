@@ -7,6 +7,8 @@ pub mod Demand3
 pub mod Examples
 pub mod HeadDemand
 pub mod HeadExamples
+pub mod HomeDemand
+pub mod HomeExamples
 pub mod LetterDemand
 pub mod Lines
 pub mod OneLine
