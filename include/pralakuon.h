@@ -54,13 +54,16 @@ enum pralakuon_refusal {
 
 /* Settings: bits of one byte. Give the same byte to every call that takes one. Straight without colour is plain. Strict
  * changes no line: it refuses (17) the templates of which bytes would be dropped or a parameter would be lost. Heads
- * changes no line either: it says that records are laid out with the serial of a head, in a line call and in a sheet. */
+ * changes no line either: it says that records are laid out with the serial of a head, in a line call and in a sheet.
+ * Places has widths count places of a screen: two for a character of East Asian Width W or F (Unicode 17.0.0), such as
+ * those of Japanese, and one for each other. Without it each character counts one. */
 enum pralakuon_settings {
     PRALAKUON_PLAIN = 0,
     PRALAKUON_COLOUR = 1,
     PRALAKUON_STRAIGHT = 2,
     PRALAKUON_STRICT = 4,
-    PRALAKUON_HEADS = 8
+    PRALAKUON_HEADS = 8,
+    PRALAKUON_PLACES = 16
 };
 
 /* Whose record it is. */
@@ -123,7 +126,7 @@ enum pralakuon_style {
 
 /* The version of this header. A caller made for MAJOR.MINOR works with every archive of the same MAJOR.MINOR. */
 #define PRALAKUON_VERSION_MAJOR 0
-#define PRALAKUON_VERSION_MINOR 5
+#define PRALAKUON_VERSION_MINOR 6
 #define PRALAKUON_VERSION_PATCH 0
 #define PRALAKUON_VERSION (65536 * PRALAKUON_VERSION_MAJOR + 256 * PRALAKUON_VERSION_MINOR + PRALAKUON_VERSION_PATCH)
 

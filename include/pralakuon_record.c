@@ -113,7 +113,7 @@ enum pralakuon_sheet_answer pralakuon_sheet_begin(struct pralakuon_sheet *sheet,
     sheet->bytes = out;
     sheet->room = sheet->size = sheet->empty = sheet->records = 0;
     sheet->settings = settings;
-    if (settings & ~(PRALAKUON_COLOUR | PRALAKUON_STRAIGHT | PRALAKUON_STRICT | PRALAKUON_HEADS))
+    if (settings & ~(PRALAKUON_COLOUR | PRALAKUON_STRAIGHT | PRALAKUON_STRICT | PRALAKUON_HEADS | PRALAKUON_PLACES))
         return PRALAKUON_SHEET_UNKNOWN_SETTINGS;
     if (!template_.bytes)
         template_.length = 0;

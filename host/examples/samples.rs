@@ -1,5 +1,5 @@
 //! Makes samples/: a wall scan as a session sheet in each of the three modes, one of a French crew, one of two heads, one
-//! whose template is refused, and what is printed of them. host/samples runs it.
+//! of sites with Japanese names, one whose template is refused, and what is printed of them. host/samples runs it.
 
 use pralakuon::{session, HostRecord, Level, Record, Settings, SheetWriter};
 use std::error::Error;
@@ -15,6 +15,10 @@ const FRENCH: &str = "{t:>12} {Température {L}%bold%<19}|{relevé : {s:>24}%dim
 /// Which head measured it stands in a column of its own. `<head>`, for a record that does not say, has six characters. The
 /// message is in a group, so that the tablet's is padded, too.
 const HEADS: &str = "{t:>12} {d:>6} {[{L}]%bold%<9}|{{s}%>24}|";
+
+/// The site stands in a column of its own, which is the crate of a record here. By the places rule twelve places are the six
+/// wide characters of the longest name.
+const PLACES: &str = "{t:>12} {[{L}]%bold%<9}|{c:12}|{{s}%>16}|";
 
 /// As a technician mistyped it: the `%` ends the template, and the time is dropped with all that follows.
 const MISTYPED: &str = "{s} %{t}";
@@ -36,7 +40,8 @@ fn main() -> Result<(), Box<dyn Error>> {
     }
     leave("strict", scan(Settings::PLAIN.with_strict(true), MISTYPED)?)?;
     leave("mur", french_scan()?)?;
-    leave("wall-heads", scan_of_two_heads()?)
+    leave("wall-heads", scan_of_two_heads()?)?;
+    leave("wall-places", scan_of_japanese_sites()?)
 }
 
 /// The scan: the device's readings, a print, and a word of the tablet itself.
@@ -100,5 +105,26 @@ fn scan_of_two_heads() -> Result<Vec<u8>, Box<dyn Error>> {
     sheet.push(&tablet)?;
     sheet.push(&crack("", "10.005000", "wall B3 crack 0.391 mm"))?;
     sheet.push(&Record::print("scan of wall B3 ends").with_head("H-07"))?;
+    Ok(sheet.finish())
+}
+
+/// Sites abroad, with names of wide characters, of halfwidth ones and of ASCII; a message in Japanese, a print, and a word of
+/// the tablet itself.
+fn scan_of_japanese_sites() -> Result<Vec<u8>, Box<dyn Error>> {
+    let crack =
+        |site, timestamp, message| Record::new(Level::Info, message).with_timestamp(timestamp).with_module_path(site);
+    let slipped = crack("ﾄﾗｽ-3::trolley", "10.005000", "wheel slipped").with_level(Level::Warn);
+    // Not measured.
+    let lost = crack("東塔・二階窓::gauge", "10.007500", "計測できず").with_level(Level::Error);
+    let tablet = HostRecord::new(Level::Debug, "sheet closed").with_module_path("tablet::app");
+    let mut sheet = SheetWriter::new(Settings::PLAIN.with_places(true), PLACES.as_bytes())?;
+    sheet.push(&crack("B3::gauge", "9.997500", "crack 0.412 mm"))?;
+    sheet.push(&crack("北壁::gauge", "10.000000", "crack 0.388 mm"))?;
+    sheet.push(&crack("蔵の土壁::gauge", "10.002500", "crack 0.391 mm"))?;
+    sheet.push(&slipped)?;
+    sheet.push(&lost)?;
+    // The scan of the north wall ends.
+    sheet.push(&Record::print("北壁の走査を終了"))?;
+    sheet.push(&tablet)?;
     Ok(sheet.finish())
 }

@@ -12,12 +12,9 @@ const MODES: [(&str, Settings); 3] = [
 
 fn main() -> ExitCode {
     let words: Vec<String> = std::env::args().skip(1).collect();
-    let (strict, words) = match words.split_first() {
-        Some((first, rest)) if first == "--strict" => (true, rest),
-        _ => (false, &words[..]),
-    };
+    let (asked, words) = asked(&words);
     let shown = match words.split_first() {
-        Some((template, keys)) => record(keys).and_then(|record| show(template, strict, record)),
+        Some((template, keys)) => record(keys).and_then(|record| show(template, asked, record)),
         None => Err("a template is needed".to_string()),
     };
     match shown {
@@ -27,6 +24,20 @@ fn main() -> ExitCode {
             ExitCode::FAILURE
         }
     }
+}
+
+/// What is asked for in front of the template, and the words from it on.
+fn asked(mut words: &[String]) -> (Settings, &[String]) {
+    let mut asked = Settings::PLAIN;
+    while let Some((first, rest)) = words.split_first() {
+        asked = match first.as_str() {
+            "--strict" => asked.with_strict(true),
+            "--places" => asked.with_places(true),
+            _ => break,
+        };
+        words = rest;
+    }
+    (asked, words)
 }
 
 /// On the error output, as `./run` does: each line begins alike, so that what stands below another still does.
@@ -70,28 +81,46 @@ fn level(value: &str) -> Result<u8, String> {
     value.parse().or_else(|_| value.parse::<Level>().map(Level::number).map_err(|unknown| unknown.to_string()))
 }
 
-fn show(template: &str, strict: bool, record: RawRecord) -> Result<(), String> {
-    print(&lines(template, strict, record)?)?;
-    // Who has never heard of strict templates is the one to be told.
+fn show(template: &str, asked: Settings, record: RawRecord) -> Result<(), String> {
+    print(&lines(template, asked, record)?)?;
+    // Who has never heard of strict templates or of places is the one to be told.
     if let Err(refusal) = check(template.as_bytes(), Settings::PLAIN.with_strict(true)) {
         say(&format!("with --strict: {}", told(template, refusal)));
+    }
+    let by = |places| made(template, Settings::PLAIN.with_places(places), record);
+    match (by(asked.places), by(true)) {
+        (Ok(characters), Ok(places)) if characters != places => {
+            say(&format!("with --places, where a wide character counts two: {}", places.replace('\x1b', "ESC")));
+        }
+        _ => {}
     }
     Ok(())
 }
 
-fn lines(template: &str, strict: bool, record: RawRecord) -> Result<String, String> {
+fn lines(template: &str, asked: Settings, record: RawRecord) -> Result<String, String> {
     let mut text = String::new();
     let mut longest = 0;
-    for (name, settings) in MODES {
-        let made = made(template, settings.with_strict(strict), record).map_err(|refusal| told(template, refusal))?;
-        if settings == Settings::PLAIN {
-            longest = made.chars().count();
+    for (name, mode) in MODES {
+        let settings = mode.with_strict(asked.strict).with_places(asked.places);
+        let made = made(template, settings, record).map_err(|refusal| told(template, refusal))?;
+        if mode == Settings::PLAIN {
+            let characters = made.chars();
+            longest = if asked.places { characters.map(places).sum() } else { characters.count() };
             text += &format!("{:20}{}\n", "", ruler(longest));
         }
         text += &format!("{name:20}{}\n", made.replace('\x1b', "ESC"));
     }
-    text += &format!("{:20}{longest} characters in the plain line\n", "");
+    let counted = if asked.places { "places" } else { "characters" };
+    text += &format!("{:20}{longest} {counted} in the plain line\n", "");
     Ok(text)
+}
+
+/// One place or two, as the archive counts: it fills two places up with a space where the character takes one.
+fn places(character: char) -> usize {
+    let alone = character.to_string();
+    let record = RawRecord::new().with_level(Level::Info.number()).with_message(alone.as_bytes());
+    let line = made("{s:2}", Settings::PLAIN.with_places(true), record).expect("a line of one character");
+    2 - (line.len() - alone.len())
 }
 
 /// A reader that stops early, such as `head`, has seen what it wanted.

@@ -79,12 +79,13 @@ pub struct FormatterConfig<'a> {
     pub format: FormatterFormat<'a>,
     /// A built-in template shows the time. A template of one's own says so itself, with `{t}`.
     pub is_timestamp_available: bool,
-    /// Colour, and whether the template is read strictly.
+    /// Colour, whether the template is read strictly, and what widths count.
     pub settings: Settings,
 }
 
 impl<'a> FormatterConfig<'a> {
-    /// By this format, without the time and without colour; its template is read as the crate reads it.
+    /// By this format, without the time and without colour; its template is read as the crate reads it, and its widths
+    /// count characters, as the crate's do.
     #[must_use]
     pub fn new(format: FormatterFormat<'a>) -> Self {
         FormatterConfig { format, ..FormatterConfig::default() }
@@ -122,11 +123,12 @@ impl<'a> FormatterConfig<'a> {
         self
     }
 
-    /// With these settings. A template that was to be read strictly still is, so that the order of these calls does not
-    /// matter.
+    /// With these settings. A template that was to be read strictly still is, and widths that were to count places still
+    /// do, so that the order of these calls does not matter.
     #[must_use]
     pub fn with_settings(mut self, settings: Settings) -> Self {
-        self.settings = settings.with_strict(settings.strict || self.settings.strict);
+        let Settings { strict, places, .. } = self.settings;
+        self.settings = settings.with_strict(settings.strict || strict).with_places(settings.places || places);
         self
     }
 
@@ -143,6 +145,24 @@ impl<'a> FormatterConfig<'a> {
     #[must_use]
     pub fn with_strict(mut self) -> Self {
         self.settings.strict = true;
+        self
+    }
+
+    /// With widths that count places of a screen, of which a wide character takes two, and not characters.
+    ///
+    /// ```
+    /// use pralakuon::{Formatter, FormatterConfig, Level, Record};
+    ///
+    /// let config = FormatterConfig::custom("{c:8}|{s}").with_places();
+    /// let record = Record::new(Level::Info, "0.412 mm");
+    /// let formatter = Formatter::new(config)?;
+    /// assert_eq!(formatter.format(&record.with_module_path("北壁::B3"))?, "北壁    |0.412 mm");
+    /// assert_eq!(formatter.format(&record.with_module_path("wall::B3"))?, "wall    |0.412 mm");
+    /// # Ok::<(), pralakuon::Refusal>(())
+    /// ```
+    #[must_use]
+    pub fn with_places(mut self) -> Self {
+        self.settings.places = true;
         self
     }
 

@@ -65,8 +65,8 @@ mod tests {
     fn a_settings_byte_says_form_and_settings() {
         for byte in 0..=255 {
             let told = Form::of_byte(byte);
-            assert_eq!(told.map(|(form, settings)| form.byte(settings)), (byte < 16).then_some(byte));
-            assert_eq!(told.map(|(form, _)| form.has_heads()), (byte < 16).then_some(byte >= 8));
+            assert_eq!(told.map(|(form, settings)| form.byte(settings)), (byte < 32).then_some(byte));
+            assert_eq!(told.map(|(form, _)| form.has_heads()), (byte < 32).then_some(byte & 8 != 0));
         }
     }
 }

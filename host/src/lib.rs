@@ -56,6 +56,22 @@
 //! assert_eq!(point_at(template.as_bytes(), 4), "{s} %{t}\n    ^");
 //! ```
 //!
+//! # Wide characters
+//!
+//! A screen gives two places to a character such as `壁`, and the crate counts one, so that a column behind a Japanese name
+//! slides. With the places rule widths count two for each wide character.
+//!
+//! ```
+//! use pralakuon::{Formatter, FormatterConfig, Level, Record};
+//!
+//! let record = Record::new(Level::Info, "0.412 mm").with_module_path("北壁::B3");
+//! let crates = Formatter::new(FormatterConfig::custom("{c:8}|{s}"))?;
+//! assert_eq!(crates.format(&record)?, "北壁      |0.412 mm"); // ten places before the `|`
+//! let places = Formatter::new(FormatterConfig::custom("{c:8}|{s}").with_places())?;
+//! assert_eq!(places.format(&record)?, "北壁    |0.412 mm"); // eight
+//! # Ok::<(), pralakuon::Refusal>(())
+//! ```
+//!
 //! # Heads
 //!
 //! Where several heads work one wall, a record can say which of them measured it: `{d}` shows the head's serial.

@@ -1,10 +1,10 @@
 //! The stored answers of the crate itself (crates/replay/stdin), through the archive as it is linked here; and the same
-//! sheets in both editions of the template rules.
+//! sheets in both editions of the template rules, and by both rules of what widths count.
 
 mod common;
 
 use common::{printed, printed_alone, told, written};
-use pralakuon::{check, session, Refusal, Sheet};
+use pralakuon::{check, session, RawRecord, Refusal, Sheet};
 
 const LIST: &[u8] = include_bytes!("../../crates/replay/stdin");
 
@@ -40,6 +40,16 @@ fn cases() -> Vec<Case> {
     cases
 }
 
+/// The cases as sheets; a case with 15 is none, and reading it says so.
+fn sheets() -> Vec<(&'static [u8], Sheet<'static>)> {
+    let (none, cases): (Vec<_>, Vec<_>) = cases().into_iter().partition(|case| case.output == b"! 15\n");
+    assert!(!none.is_empty());
+    for Case { sheet, .. } in none {
+        assert_eq!(Sheet::read(sheet), Err(Refusal::NotASheet), "{:?}", String::from_utf8_lossy(sheet));
+    }
+    cases.iter().map(|case| (case.sheet, Sheet::read(case.sheet).unwrap())).collect()
+}
+
 #[test]
 fn a_session_prints_what_the_crate_prints() {
     let mut compared = 0;
@@ -65,15 +75,15 @@ fn one_by_one(sheet: &Sheet) -> Result<Vec<u8>, Refusal> {
 
 #[test]
 fn a_session_is_its_lines() {
-    for Case { sheet, .. } in cases() {
-        assert!(one_by_one(&Sheet::read(sheet).unwrap()) == session(sheet), "{:?}", String::from_utf8_lossy(sheet));
+    for (bytes, sheet) in sheets() {
+        assert!(one_by_one(&sheet) == session(bytes), "{:?}", String::from_utf8_lossy(bytes));
     }
 }
 
 #[test]
 fn every_sheet_is_written_as_it_was_read() {
-    for Case { sheet, .. } in cases() {
-        assert!(written(&Sheet::read(sheet).unwrap()) == sheet);
+    for (bytes, sheet) in sheets() {
+        assert!(written(&sheet) == bytes);
     }
 }
 
@@ -88,8 +98,7 @@ fn in_edition(sheet: &Sheet, strict: bool) -> Result<Vec<u8>, Refusal> {
 #[test]
 fn the_strict_edition_changes_no_line() {
     let (mut read, mut dropped) = (0, 0);
-    for Case { sheet, .. } in cases() {
-        let sheet = Sheet::read(sheet).unwrap();
+    for (_, sheet) in sheets() {
         let (first, strict) = (in_edition(&sheet, false), in_edition(&sheet, true));
         match strict {
             Err(Refusal::Dropped { place }) => {
@@ -104,4 +113,29 @@ fn the_strict_edition_changes_no_line() {
         }
     }
     assert!(read > 1_000 && dropped > 100, "only {read} were read and {dropped} refused with 17");
+}
+
+/// No character before U+1100 is wide, and its bytes are all below 0xE1.
+fn has_nothing_wide(sheet: &Sheet) -> bool {
+    let texts =
+        |record: &RawRecord| [record.file, record.module_path, record.timestamp, record.message, record.head].concat();
+    sheet.template.iter().copied().chain(sheet.records.iter().flat_map(texts)).all(|byte| byte < 0xe1)
+}
+
+#[test]
+fn the_places_rule_changes_no_line_without_wide_characters() {
+    let by = |sheet: &Sheet, places| {
+        let mut sheet = sheet.clone();
+        sheet.settings.places = places;
+        session(&written(&sheet))
+    };
+    let mut compared = 0;
+    for (_, sheet) in sheets() {
+        if has_nothing_wide(&sheet) {
+            let [characters, places] = [false, true].map(|places| by(&sheet, places));
+            assert!(characters == places, "{:?}", String::from_utf8_lossy(sheet.template));
+            compared += usize::from(places.is_ok());
+        }
+    }
+    assert!(compared > 1_000, "only {compared} sheets have nothing wide");
 }

@@ -4,13 +4,13 @@ use pralakuon::{entries, point_at, Formatter, FormatterConfig, Level, Record, Re
 
 const GUIDE: &str = include_str!("../../docs/GUIDE.md");
 
-/// A word of the guide: `x*3` is `xxx`, `{s}*2` is `{s}{s}`, `xff` is the byte 255, `ESC` the byte 27.
+/// A word of the guide: `x*3` is `xxx`, `{s}*2` is `{s}{s}`, `xff` is the byte 255, `ESC` the byte 27, `U+3099` that mark.
 fn spelled(word: &str) -> Vec<u8> {
     if word == "xff" {
         return vec![0xff];
     }
     let mut bytes = Vec::new();
-    let mut rest = word.replace("ESC", "\x1b");
+    let mut rest = word.replace("ESC", "\x1b").replace("U+3099", "\u{3099}");
     while let Some(star) = rest.find('*') {
         let digits = rest[star + 1..].bytes().take_while(u8::is_ascii_digit).count();
         let count: usize = rest[star + 1..star + 1 + digits].parse().expect("a number after *");
@@ -134,6 +134,9 @@ fn the_guides_rust_is_run() -> Result<(), Refusal> {
     let formatter = Formatter::new(FormatterConfig::custom("{d:>6} {s}"))?;
     let record = Record::new(Level::Info, "crack").with_head("H-07");
     assert_eq!(formatter.format(&record)?, "  H-07 crack");
+    let formatter = Formatter::new(FormatterConfig::custom("{c:8}|{s}").with_places())?;
+    let record = Record::new(Level::Info, "0.412 mm").with_module_path("北壁::gauge");
+    assert_eq!(formatter.format(&record)?, "北壁    |0.412 mm");
 
     assert!(quoted("rust").len() > 6 && quoted("rust").iter().all(|line| include_str!("guide.rs").contains(line)));
     Ok(())

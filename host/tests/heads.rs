@@ -83,7 +83,7 @@ fn an_absent_head_is_told_and_an_empty_one_is_empty() {
 
 #[test]
 fn a_record_of_the_old_layout_has_no_head() {
-    for settings in 0..8 {
+    for settings in (0..8).chain(16..24) {
         let line = answered_twice("{d} {s}", settings, &hand_laid(b"hello"));
         assert_eq!(line, is_line("<head> hello"), "settings {settings}");
     }
@@ -295,7 +295,7 @@ fn d_is_a_name_whatever_the_settings() {
 fn the_layout_changes_no_line() {
     let templates = ["{[{L}]%bold%<9}|{d:red:>8}|{s:>9}", "{d} %{s}", "{s} %{t}", "{t}"];
     for template in templates {
-        for settings in 0..8 {
+        for settings in (0..8).chain(16..24) {
             let old = answered(template, settings, &hand_laid(b"hello"));
             let new = answered(template, settings | HEADS, &hand_laid_with_head(b"hello", 0, b""));
             assert_eq!(old, new, "{template} {settings}");

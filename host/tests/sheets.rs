@@ -24,7 +24,7 @@ const EXAMPLE_WITH_HEADS: &[u8] = b"\x04\0\
     \x01\0\0\0\0\0\0\0\0\0\0\0\0\0\0\0\0";
 
 /// Those that have lines.
-const SAMPLES: [&str; 5] = ["wall", "wall-crate", "wall-straight", "mur", "wall-heads"];
+const SAMPLES: [&str; 6] = ["wall", "wall-crate", "wall-straight", "mur", "wall-heads", "wall-places"];
 
 /// The reader and the archive say alike whether this is a sheet.
 fn judged_alike(bytes: &[u8]) -> bool {
@@ -244,10 +244,10 @@ const CONTENTS: usize = 2 + 4 * 4;
 
 #[test]
 fn every_change_of_a_byte_is_judged_alike() {
-    // The contents, the settings byte that says heads or has one of four unknown bits, the lengths of three records' texts.
-    assert_eq!(refused_by_a_byte(EXAMPLE), CONTENTS * 255 + 8 + 240 + 3 * 8 * 255);
+    // The contents, the settings byte that says heads or has one of three unknown bits, the lengths of three records' texts.
+    assert_eq!(refused_by_a_byte(EXAMPLE), CONTENTS * 255 + 16 + 224 + 3 * 8 * 255);
     // The same, where it says that there are no heads; the lengths of a fifth text.
-    assert_eq!(refused_by_a_byte(EXAMPLE_WITH_HEADS), CONTENTS * 255 + 8 + 240 + 3 * 10 * 255);
+    assert_eq!(refused_by_a_byte(EXAMPLE_WITH_HEADS), CONTENTS * 255 + 16 + 224 + 3 * 10 * 255);
 }
 
 #[test]
@@ -263,13 +263,15 @@ fn odd_sheets_are_judged_alike() {
         vec![1, 0],
         sheet_of(&[]),
         sheet_of(&[b""]),
-        sheet_of(&[b"\x10{s}"]),
+        sheet_of(&[b"\x20{s}"]),
         sheet_of(&[b"\x80{s}"]),
         // Of the other layout, and one byte too short for it.
         sheet_of(&[b"\x08{s}", &record]),
         sheet_of(&[b"\x08{s}", &headed, &record]),
         sheet_of(&[b"\0{s}", &headed]),
         sheet_of(&[b"\x08{s}", &headed[..16]]),
+        sheet_of(&[b"\x10{s}", &headed]),
+        sheet_of(&[b"\x18{s}", &record]),
         sheet_of(&[b"\0{s}", b""]),
         sheet_of(&[b"\0{s}", &record[..14]]),
         sheet_of(&[b"\0{s}", &longer]),
@@ -286,11 +288,13 @@ fn odd_sheets_are_judged_alike() {
     }
     let sheets = [
         sheet_of(&[b"\0"]),
-        sheet_of(&[b"\x0f"]),
+        sheet_of(&[b"\x1f"]),
         sheet_of(&[b"\x04{s}"]),
         sheet_of(&[b"\x02{s}", &record]),
         sheet_of(&[b"\x08{s}"]),
         sheet_of(&[b"\x0a{s}", &headed]),
+        sheet_of(&[b"\x10{s}", &record]),
+        sheet_of(&[b"\x18{s}", &headed]),
     ];
     for bytes in sheets {
         assert!(!judged_alike(&bytes), "{bytes:?}");

@@ -145,8 +145,8 @@ fn what_is_used_up_is_read_by_both() {
 fn r17_what_is_dropped_or_lost_is_read_by_the_first_only() {
     for (template, line, place) in DROPPED {
         answered(template.as_bytes(), Settings::PLAIN, Ok(line));
-        // Colour changes nothing of how a template is read.
-        for byte in 4..8 {
+        // Neither colour nor what widths count changes anything of how a template is read.
+        for byte in (4..8).chain(20..24) {
             answered(template.as_bytes(), Settings::from_byte(byte).unwrap(), Err(Refusal::Dropped { place }));
         }
     }
@@ -218,19 +218,19 @@ fn r17_is_the_low_byte_of_the_answer_and_the_place_stands_above_it() {
 }
 
 #[test]
-fn r15_comes_before_17_and_all_bits_above_heads_are_unknown() {
+fn r15_comes_before_17_and_all_bits_above_places_are_unknown() {
     let record = hand_laid(b"hello");
     let headed = hand_laid_with_head(b"hello", 8, b"H-07");
     let too_long = [b'x'; 1_025];
-    for settings in 16..=255 {
+    for settings in 32..=255 {
         for template in [&b"{s}"[..], b"{s} %{t}", b"{t}", &too_long] {
             for record in [&record, &headed] {
                 assert_eq!(numbers(template, settings, record), [15; 4], "settings {settings}");
             }
         }
     }
-    for settings in 0..16 {
-        let record = if settings < 8 { &record } else { &headed };
+    for settings in 0..32 {
+        let record = if settings & 8 == 0 { &record } else { &headed };
         assert_eq!(entries::check(b"{s}", settings), 0);
         assert_eq!(entries::timestamp(b"{t}{s}", settings), 256);
         assert_eq!(entries::line(b"{s}", settings, record, &mut [0; 80]), 5 * 256);
@@ -245,12 +245,13 @@ fn r15_comes_before_17_and_all_bits_above_heads_are_unknown() {
 
 /// The bit of the layout is no setting: what it says, the record says.
 #[test]
-fn settings_have_three_bits() {
-    for byte in 0..8 {
+fn settings_have_four_bits() {
+    for byte in (0..8).chain(16..24) {
         assert_eq!(Settings::from_byte(byte).map(Settings::byte), Some(byte));
-        assert_eq!(Settings::from_byte(byte).map(|settings| settings.strict), Some(byte >= 4));
+        assert_eq!(Settings::from_byte(byte).map(|settings| settings.strict), Some(byte & 4 != 0));
+        assert_eq!(Settings::from_byte(byte).map(|settings| settings.places), Some(byte & 16 != 0));
     }
-    for byte in 8..=255 {
+    for byte in (8..16).chain(24..=255) {
         assert_eq!(Settings::from_byte(byte), None);
     }
 }

@@ -7,6 +7,7 @@ mod heads;
 mod lent;
 mod listed;
 mod make;
+mod places;
 mod ruled;
 
 use crate::judge;
@@ -56,6 +57,16 @@ pub fn run_strict() -> bool {
 /// The same over templates in which `d` is tried as a name or nearly is.
 pub fn run_heads() -> bool {
     run_over(make::head_count(), make::head_case)
+}
+
+/// The same over every character in a padded message.
+pub fn run_wide() -> bool {
+    run_over(make::wide_count(), make::wide_case)
+}
+
+/// The same over cases of chance in which padding meets wide characters.
+pub fn run_places(count: u64, seed: u64) -> bool {
+    run_over(count, |index| make::places_case(seed, index))
 }
 
 fn run_over(count: u64, case: impl Fn(u64) -> (usize, Case) + Sync) -> bool {

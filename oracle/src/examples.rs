@@ -1,12 +1,13 @@
-//! Document 01's examples, and letters, strict templates and heads as document 02 decides them (E3, E5, E7), held against
-//! the crate. Expected values are typed from the documents; where the port parts from the crate, the crate's own answer
+//! Document 01's examples, and letters, strict templates, heads and places as document 02 decides them (E3, E5, E7, E14),
+//! held against the crate. Expected values are typed from the documents; where the port parts from the crate, the crate's own answer
 //! stands here and says so.
 
 pub(crate) mod heads;
+pub(crate) mod places;
 
 use crate::judge::{self, Answer, Shown};
 use crate::ruling::{self, Names};
-use crate::sheet::{Record, Sheet, COLOUR, DEVICE, FILE, HOST, LINE, MODULE};
+use crate::sheet::{Record, Sheet, COLOUR, DEVICE, FILE, HOST, LINE, MODULE, UNKNOWN};
 use crate::strict;
 use crate::stub::format::{self, Template};
 
@@ -336,6 +337,7 @@ pub fn run() -> bool {
     checks.tables();
     checks.strict();
     checks.heads();
+    checks.places();
     checks.sheet();
     checks.hosts();
     checks.limits();
@@ -428,7 +430,7 @@ impl Checks {
         self.same("the sheet example", b"[ERROR] hello\nboot\n! 14\n".to_vec(), printed);
         let short = Sheet::read(&[1, 0, 0, 0, 0, 0]);
         self.same("a body 0 without a byte", Answer::Refused(15), judge::answer(short.as_ref()));
-        let unknown = Sheet { settings: 16, ..Sheet::default() }.write();
+        let unknown = Sheet { settings: UNKNOWN, ..Sheet::default() }.write();
         let unknown = Sheet::read(&unknown);
         self.same("an unknown settings bit", Answer::Refused(15), judge::answer(unknown.as_ref()));
     }

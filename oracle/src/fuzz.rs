@@ -4,6 +4,7 @@
 use crate::compare::case::{Case, Seen};
 use crate::inputs::{self, Input};
 use crate::judge;
+use crate::sheet::UNKNOWN;
 
 /// Longer ones hold nothing new, and a field's length must fit 16 bits.
 const MOST: usize = 65535;
@@ -35,7 +36,12 @@ fn cases(input: Input) -> Vec<Case> {
             let record = &sheet.records[0];
             let bytes = record.write(sheet.layout());
             vec![
-                Case::Line { template: sheet.template.clone(), record: bytes, unknown: sheet.settings | 16 },
+                Case::Line {
+                    template: sheet.template.clone(),
+                    record: bytes,
+                    unknown: sheet.settings | UNKNOWN,
+                    places: sheet.places(),
+                },
                 Case::Sheet(sheet.write()),
                 Case::BuiltIn([sheet.settings, record.source, record.level, record.mask]),
                 Case::Text(record.message.clone()),

@@ -64,7 +64,7 @@ pub fn seeds(list: &str, folder: &str) -> io::Result<()> {
     for (i, stored) in sample::stored(&fs::read(list)?).into_iter().enumerate() {
         let file = |layout: &str| Path::new(folder).join(format!("{i}-{layout}"));
         fs::write(file("sheet"), [&[0, SHEET], stored.sheet].concat())?;
-        let sheet = Sheet::read(stored.sheet).expect("the list has sheets only");
+        let Some(sheet) = Sheet::read(stored.sheet) else { continue };
         for record in sheet.records.iter().take(1) {
             fs::write(file("loose"), write_loose(&sheet, record))?;
         }

@@ -12,6 +12,7 @@ mod kelvin;
 pub mod meaning;
 #[cfg(all(test, feature = "port"))]
 mod migration;
+mod places;
 pub mod ruling;
 pub mod sample;
 pub mod sheet;

@@ -1,6 +1,6 @@
 //! `pralakuon-oracle MODE`: README.md says what each mode reads and writes.
 
-use pralakuon_oracle::sheet::{Record, Sheet, COLOUR, FILE, HEAD, HEADS, LINE, MODULE, STRAIGHT, STRICT};
+use pralakuon_oracle::sheet::{Record, Sheet, COLOUR, FILE, HEAD, HEADS, LINE, MODULE, PLACES, STRAIGHT, STRICT};
 use pralakuon_oracle::{examples, inputs, judge, meaning, sample, stream, VERSIONS};
 use std::io::{self, Read, Write};
 use std::process::ExitCode;
@@ -9,9 +9,11 @@ const USAGE: &str = "usage: pralakuon-oracle lines | segments | text | examples 
        pralakuon-oracle sample FILE [SEED]
        pralakuon-oracle meaning LIST CRATES FOLDER STEP
        pralakuon-oracle seeds LIST FOLDER
-       pralakuon-oracle compare N [SEED] | compare paths | bytes | letters | strict | heads   (built by oracle/compare)
+       pralakuon-oracle compare [places] N [SEED]                              (built by oracle/compare)
+       pralakuon-oracle compare paths | bytes | letters | strict | heads | wide   (built by oracle/compare)
        pralakuon-oracle speed              (built by oracle/speed)
-       pralakuon-oracle sheet [--colour] [--straight] [--strict] [--heads] --template TEXT [--record KEY=VALUE,..]..
+       pralakuon-oracle sheet [--colour] [--straight] [--strict] [--heads] [--places] --template TEXT
+                              [--record KEY=VALUE,..]..
        keys of a record: source level file line module timestamp head message (the rest, commas too)";
 
 fn main() -> ExitCode {
@@ -62,19 +64,31 @@ fn usage() -> ExitCode {
 
 #[cfg(feature = "port")]
 fn compare(words: &[&str]) -> ExitCode {
-    use pralakuon_oracle::compare::{run, run_bytes, run_heads, run_letters, run_paths, run_strict, SEED};
-    let numbers: Option<Vec<u64>> = words.iter().map(|word| word.parse().ok()).collect();
-    let alike = match (words, numbers.as_deref()) {
-        (["paths"], _) => run_paths(),
-        (["bytes"], _) => run_bytes(),
-        (["letters"], _) => run_letters(),
-        (["strict"], _) => run_strict(),
-        (["heads"], _) => run_heads(),
-        (_, Some([count])) => run(*count, SEED),
-        (_, Some([count, seed])) => run(*count, *seed),
-        _ => return usage(),
+    use pralakuon_oracle::compare::{
+        run, run_bytes, run_heads, run_letters, run_paths, run_places, run_strict, run_wide,
     };
-    ExitCode::from(u8::from(!alike))
+    let alike = match words {
+        ["paths"] => Some(run_paths()),
+        ["bytes"] => Some(run_bytes()),
+        ["letters"] => Some(run_letters()),
+        ["strict"] => Some(run_strict()),
+        ["heads"] => Some(run_heads()),
+        ["wide"] => Some(run_wide()),
+        ["places", numbers @ ..] => of_chance(run_places, numbers),
+        numbers => of_chance(run, numbers),
+    };
+    alike.map_or_else(usage, |alike| ExitCode::from(u8::from(!alike)))
+}
+
+/// None where the words are not how many cases, and perhaps a seed.
+#[cfg(feature = "port")]
+fn of_chance(run: fn(u64, u64) -> bool, words: &[&str]) -> Option<bool> {
+    let numbers: Vec<u64> = words.iter().map(|word| word.parse().ok()).collect::<Option<_>>()?;
+    match numbers[..] {
+        [count] => Some(run(count, pralakuon_oracle::compare::SEED)),
+        [count, seed] => Some(run(count, seed)),
+        _ => None,
+    }
 }
 
 fn text() -> io::Result<()> {
@@ -104,6 +118,10 @@ fn sheet(mut options: &[&str]) -> Option<Sheet> {
             }
             ["--heads", rest @ ..] => {
                 sheet.settings |= HEADS;
+                rest
+            }
+            ["--places", rest @ ..] => {
+                sheet.settings |= PLACES;
                 rest
             }
             ["--template", text, rest @ ..] => {

@@ -1,10 +1,11 @@
-//! What document 01 rules, with document 02's letters (E3), strict templates (E5) and heads (E7), decided a second time and
-//! without a look at the port: which number a template, a record or a sheet gets, in the documents' order, and the line. Wherever the
+//! What document 01 rules, with document 02's letters (E3), strict templates (E5), heads (E7) and places (E14), decided a second
+//! time and without a look at the port: which number a template, a record or a sheet gets, in the documents' order, and the line. Wherever the
 //! crate has an answer, it judges these rulings too.
 
 pub mod line;
 mod reader;
 mod unused;
+pub mod wide;
 
 pub use line::line;
 pub use reader::{parse, Names, Reading};

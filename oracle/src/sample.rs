@@ -5,14 +5,16 @@ mod counts;
 mod heads;
 mod letters;
 mod limits;
+mod places;
 pub(crate) mod random;
 mod strict;
 
 use crate::head;
 use crate::judge::{self, Answer, Shown};
 use crate::kelvin;
+use crate::places::{answered, asked};
 use crate::ruling::{self, Names};
-use crate::sheet::{Record, Sheet, DEVICE};
+use crate::sheet::{Record, Sheet, COLOUR, DEVICE, STRAIGHT};
 use crate::VERSIONS;
 use cases::Case;
 use std::io;
@@ -30,7 +32,7 @@ pub fn run(file: &str, seed: u64) -> io::Result<()> {
     let mut list = header(seed, cases.len()).into_bytes();
     let mut counts = counts::Counts::default();
     for case in &cases {
-        let answer = judge::answer_alone(&head::asked(&case.sheet).expect("a stand-in for `d`"));
+        let answer = answer(&case.sheet);
         check(case, &answer);
         let (sheet, output) = (case.sheet.write(), answer.printed());
         counts.add(case, &answer);
@@ -46,6 +48,25 @@ pub fn run(file: &str, seed: u64) -> io::Result<()> {
     Ok(())
 }
 
+/// The crate's answer. A sheet that is not laid out isn't put to it. Straight mode is the port's own: where a prefix may be
+/// inserted, the lines are ruled.
+fn answer(sheet: &Sheet) -> Answer {
+    if Sheet::read(&sheet.write()).is_none() {
+        return Answer::Refused(15);
+    }
+    let straight = COLOUR | STRAIGHT;
+    match ruling::template(&sheet.template, Names::All) {
+        Ok(reading) if sheet.settings & straight == straight => {
+            let line = |record| Shown::Line(ruling::line(&reading.segments, record, sheet.settings).text.into_bytes());
+            Answer::Read(sheet.records.iter().map(line).collect())
+        }
+        _ => {
+            let by_the_crates_names = head::asked(sheet).expect("a stand-in for `d`");
+            answered(sheet, judge::answer_alone(&asked(&by_the_crates_names)))
+        }
+    }
+}
+
 fn header(seed: u64, count: usize) -> String {
     format!(
         "Answers of defmt-decoder 1.1.0, module log::format, to session sheets.
@@ -56,6 +77,8 @@ After the first empty line, for each case: u8 N; u32 length and a session sheet;
 Output: what the port's program prints for the sheet if its lines are the crate's: each line and a newline, or `! 3` or
 `! 4` and a newline for the sheet; `panic` and a newline where the crate panics; `! 2`, `! 12` and `! 14` where it cannot be asked.
 The crate knows no heads. Where `d` may be tried as a name it is asked with F or m for it, and with the serial as file or module.
+It counts characters. Where the settings byte has bit 16, places, it is asked with every wide character twice, and the output has
+them once. It has no straight mode: where the settings byte has bits 1 and 2, the output is ruled. `! 15`: the sheet is not laid out.
 N 0: the port prints the same.
 N 1, 2, 5 to 9, 11, 12: the port refuses with that number; the output is the crate's, which knows no such limit.
 N 17: the settings byte has bit 4, the strict edition, and the port refuses; the output is the crate's, which knows one edition.
@@ -129,7 +152,7 @@ fn within_sizes(sheet: &Sheet, answer: &Answer) -> bool {
     let line = |shown: &Shown| !matches!(shown, Shown::Line(line) if line.len() > 65536);
     let lines = match answer {
         Answer::Read(lines) => lines.iter().all(line),
-        Answer::Refused(number) => [3, 4].contains(number),
+        Answer::Refused(number) => [3, 4, 15].contains(number),
         Answer::Panic => false,
     };
     sheet.template.len() <= 1024 && sheet.records.iter().all(record) && lines && sheet.write().len() <= 65536

@@ -7,7 +7,12 @@ pub const STRAIGHT: u8 = 2;
 pub const STRICT: u8 = 4;
 /// Records have the head's serial (document 02, E7).
 pub const HEADS: u8 = 8;
-const KNOWN: u8 = COLOUR | STRAIGHT | STRICT | HEADS;
+/// Padding counts places (document 02, E14).
+pub const PLACES: u8 = 16;
+const KNOWN: u8 = COLOUR | STRAIGHT | STRICT | HEADS | PLACES;
+
+/// The least bit that is not known.
+pub const UNKNOWN: u8 = 32;
 
 pub const FILE: u8 = 1;
 pub const LINE: u8 = 2;
@@ -158,6 +163,10 @@ impl Sheet {
 
     pub fn strict(&self) -> bool {
         self.settings & STRICT != 0
+    }
+
+    pub fn places(&self) -> bool {
+        self.settings & PLACES != 0
     }
 
     pub fn layout(&self) -> Layout {

@@ -1,6 +1,7 @@
 //! Times of the port and of the crate, taken in turn in one run, as the tables of docs/SPEED.md.
 
 mod growth;
+mod places;
 mod stack;
 mod texts;
 mod timing;
@@ -33,6 +34,7 @@ pub fn run() {
     println!("Run on {ARCH} with {VERSIONS}.\n");
     reading();
     lines();
+    places::run();
     visible();
     texts::run();
     growth::run();

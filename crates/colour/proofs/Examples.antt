@@ -6,6 +6,9 @@ use mathlib.Core.List.{[], _∷_, _++_}
 use Rattle.buffer.specs.Bytes.{bytes}
 use Rattle.utf8.specs.Computing as utf8
 use Rattle.characters.specs.Computing as characters
+use Rattle.points.specs.Computing as points
+use Rattle.widths.specs.declared.Rule.{Rule}
+use Rattle.widths.specs.Computing as widths
 use Rattle.runs.specs.Computing as runs
 use Rattle.colour.specs.Computing as colour
 use Rattle.words.specs.declared.Alignment.{Alignment}
@@ -15,7 +18,7 @@ use Rattle.words.specs.declared.Padding.{Padding}
 use Rattle.words.specs.declared.Padding.the-variants.{Space, Zero}
 use Rattle.colour.specs.declared.Ink.{Ink}
 use Rattle.colour.specs.declared.Ink.the-variants.{Bare, Inked}
-use Rattle.colour.specs.Modes.{off, plain, straight, coloured}
+use Rattle.colour.specs.Modes.{off, offBy, plain, straight, coloured}
 use Rattle.colour.specs.declared.Format.{Format}
 use Rattle.colour.specs.Sequences.{visible}
 use Rattle.colour.specs.Formatting.{formatted}
@@ -45,8 +48,25 @@ examples :
     ∷ bytes "\u{1b}[4ma\u{1b}[0m\u{1b}[4mb       \u{1b}[0m"
     ∷ bytes "  \u{1b}[31ma\u{1b}[0m"
     ∷ []
-unfolding utf8.computes characters.computes runs.computes colour.computes
+unfolding utf8.computes characters.computes widths.computes runs.computes colour.computes
 examples = refl
+
+-- by the places rule `壁` counts two, and the bytes inserted count as bytes by either rule
+by-either-rule :
+    formatted (plain off) (in-format 6 Left Space false Bare) (bytes "壁B3")
+    ∷ formatted (plain (offBy Rule.Places)) (in-format 6 Left Space false Bare) (bytes "壁B3")
+    ∷ formatted (plain (offBy Rule.Places)) (in-format 7 Center Space false Bare) (bytes "壁")
+    ∷ formatted (coloured (offBy Rule.Places)) (in-format 9 Left Space true Bare) (bytes "[\u{1b}[31m壁\u{1b}[0m]")
+    ∷ formatted (straight (offBy Rule.Places)) (in-format 9 Left Space true Bare) (bytes "[\u{1b}[31m壁\u{1b}[0m]")
+    ∷ []
+    ≡ bytes "壁B3   "
+    ∷ bytes "壁B3  "
+    ∷ bytes "  壁   "
+    ∷ bytes "\u{1b}[4m[\u{1b}[31m壁\u{1b}[0m\u{1b}[4m] \u{1b}[0m"
+    ∷ bytes "\u{1b}[4m[\u{1b}[31m壁\u{1b}[0m\u{1b}[4m]     \u{1b}[0m"
+    ∷ []
+unfolding utf8.computes characters.computes points.computes widths.computes runs.computes colour.computes
+by-either-rule = refl
 
 -- a sequence may begin in one text and end in the next: what is visible of two texts is not what is visible of each
 straddling : visible (bytes "\u{1b}[" ++ bytes "1m") ∷ (visible (bytes "\u{1b}[") ++ visible (bytes "1m")) ∷ [] ≡ [] ∷ bytes "\u{1b}[1m" ∷ []

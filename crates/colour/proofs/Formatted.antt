@@ -5,12 +5,14 @@ use mathlib.Core.List.{List, [], _∷_, _++_, append-nil}
 use Prim.Native.Nat.{ℕ, _+_, _-_, _≤_}
 use native.Mathlib.Omega.{arith}
 use lib.ListN.{length, replicate}
+use Rattle.widths.specs.declared.Rule.{Rule}
+use Rattle.widths.specs.Widths.{count}
 use Rattle.words.specs.declared.Alignment.{Alignment}
 use Rattle.words.specs.declared.Alignment.the-variants.{Left, Center, Right}
 use Rattle.colour.specs.declared.Settings.{Settings}
 use Rattle.colour.specs.declared.Format.{Format}
 use Rattle.colour.specs.Sequences.{reset, visible, reinserted}
-use Rattle.colour.specs.Formatting.{count, due, prefixIn, inserted, counted, padded, before, padByte, ending, framed, formatted}
+use Rattle.colour.specs.Formatting.{due, prefixIn, inserted, counted, padded, before, padByte, ending, framed, formatted}
 use Rattle.colour.specs.Texts.{Free}
 use Rattle.colour.proofs.Strip.{Trails, trails-ending, trails-pad}
 use Rattle.colour.proofs.Shows.{Shows, shows-append, shows-free, free-pad, free-append, shows-ending, visible-reinserted-append, shows-reinserted, reinserted-nil, visible-trails}
@@ -94,15 +96,15 @@ before-small Center n = omega arith
 before-small Right n = omega arith
 
 -- padding adds its own count
-pub count-with-padding : (s : Settings) (f : Format) (n : ℕ) (v : List ℕ) → count s (withPadding f n v) ≡ count s v + n
-count-with-padding s f n v =
+pub count-with-padding : (r : Rule) (f : Format) (n : ℕ) (v : List ℕ) → count r (withPadding f n v) ≡ count r v + n
+count-with-padding r f n v =
     let z = f .padding in
     let a = before (f .alignment) n in
-    omega (arith, count-pad-before s z a (v ++ replicate (n - a) (padByte z)), count-pad-after s z (n - a) v, before-small (f .alignment) n)
+    omega (arith, count-pad-before r z a (v ++ replicate (n - a) (padByte z)), count-pad-after r z (n - a) v, before-small (f .alignment) n)
 
 -- what is seen of a formatted text is what is seen of the text and the padding written
-pub count-formatted : (s : Settings) (f : Format) (t : List ℕ) → count s (visible (formatted s f t)) ≡ count s (visible t) + padded s f t
-count-formatted s f t = ap (count s) (visible-formatted s f t) ∙ count-with-padding s f (padded s f t) (visible t)
+pub count-formatted : (s : Settings) (f : Format) (t : List ℕ) → count (s .rule) (visible (formatted s f t)) ≡ count (s .rule) (visible t) + padded s f t
+count-formatted s f t = ap (count (s .rule)) (visible-formatted s f t) ∙ count-with-padding (s .rule) f (padded s f t) (visible t)
 
 -- ---- how much padding is written
 

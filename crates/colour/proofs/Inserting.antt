@@ -76,7 +76,7 @@ behind-scan p w Text t = sym (bump-zero (moved Text t))
 behind-scan p w Esc t = sym (bump-zero (moved Esc t))
 behind-scan p w (More q) t = sym (bump-zero (moved (More q) t))
 behind-scan p w Done t = sym (bump-zero (moved Done t))
-behind-scan p w Reset t = w (moved Reset t)
+behind-scan p w Reset t = w .scanned (moved Reset t)
 
 -- inserting a prefix after each reset changes neither the state nor the resets, and adds its bytes to those in sequences
 pub ins-scan : (p : List ℕ) → Whole p → (s : List ℕ) (t : Scan) → scan t (ins p (t .state) s) ≡ bump (scan t s) (added p (t .state) s)

@@ -58,7 +58,7 @@ pub resets-reset : Resets reset 1
 resets-reset t e = (ap (λ (u : Scan). u .state) (scan-reset t), ap (λ (u : Scan). u .resets) (scan-reset t))
 
 pub resets-whole : (p : List ℕ) → Whole p → Resets p 0
-resets-whole p w t e = (ap (λ (u : Scan). u .state) (w t), ap (λ (u : Scan). u .resets) (w t) ∙ sym (add-zero (t .resets)))
+resets-whole p w t e = (ap (λ (u : Scan). u .state) (w .scanned t), ap (λ (u : Scan). u .resets) (w .scanned t) ∙ sym (add-zero (t .resets)))
 
 -- a prefix holds no reset, and inserting it makes none
 pub record Harmless (p : List ℕ) : Type 0 where

@@ -14,3 +14,4 @@ pub mod Formatted
 pub mod Measures
 pub mod Lengths
 pub mod Trees
+pub mod Seeing

@@ -13,10 +13,9 @@ use Rattle.colour.specs.declared.State.the-variants.{Outside}
 use Rattle.colour.specs.declared.Act.{Act}
 use Rattle.colour.specs.declared.Act.the-variants.{Text, Esc, More, Done, Reset}
 use Rattle.colour.specs.declared.Scan.{Scan}
-use Rattle.colour.specs.declared.Settings.{Settings}
 use Rattle.colour.specs.declared.Format.{Format}
-use Rattle.colour.specs.Sequences.{reset, visible, reinserted}
-use Rattle.colour.specs.Formatting.{count, inserted, before, padByte, ending, framed}
+use Rattle.colour.specs.Sequences.{reset, reinserted}
+use Rattle.colour.specs.Formatting.{inserted, before, padByte, ending, framed}
 use Rattle.colour.specs.Machine.{actOf, after, moved, scan, resting, start, behind, ins}
 use Rattle.colour.proofs.Strip.{Stays, stays-pad}
 use Rattle.colour.proofs.Scanning.{scan-append, scan-free}
@@ -24,7 +23,6 @@ use Rattle.colour.proofs.Wholes.{Whole, WholeOrNone, none, one, scan-re
 use Rattle.colour.proofs.Inserting.{bump, bump-zero, added, length-ins, ins-scan, added-many}
 use Rattle.colour.proofs.Reinserted.{reinserted-ins}
 use Rattle.colour.proofs.Shows.{free-pad, reinserted-nil}
-use Rattle.colour.proofs.Characters.{visible-chars}
 use Rattle.colour.proofs.Counts.{chars-pad}
 use Rattle.colour.proofs.Formatted.{before-small, inserted-nil}
 
@@ -41,11 +39,6 @@ length-reinserted p s = omega (arith, ap length (reinserted-ins p s), length-ins
 pub inserted-resets : (p s : List ℕ) → inserted p s ≡ scan start s .resets * length p
 unfolding inserted
 inserted-resets p s = omega (arith, length-reinserted p s)
-
--- what is counted of what is visible: the characters less the bytes of whole sequences
-pub count-visible : (g : Settings) (s : List ℕ) → count g (visible s) ≡ chars s - scan start s .sequences
-unfolding count
-count-visible g s = omega (arith, visible-chars s)
 
 behind-chars : (p : List ℕ) → chars p ≡ length p → (a : Act) → chars (behind a p) ≡ length (behind a p)
 behind-chars p e Text = refl
@@ -142,7 +135,7 @@ scan-laid p w e f n s t =
     let m : added p Outside s ≡ v .resets * length p = added-resets p s in
     ap (λ (k : List ℕ). scan t (p ++ (l ++ (k ++ (r ++ ending p))))) (reinserted-ins p s)
     ∙ scan-append p (l ++ (ins p Outside s ++ (r ++ ending p))) t
-    ∙ ap (λ (k : Scan). scan k (l ++ (ins p Outside s ++ (r ++ ending p)))) (w t)
+    ∙ ap (λ (k : Scan). scan k (l ++ (ins p Outside s ++ (r ++ ending p)))) (w .scanned t)
     ∙ scan-append l (ins p Outside s ++ (r ++ ending p)) u
     ∙ ap (λ (k : Scan). scan k (ins p Outside s ++ (r ++ ending p))) (scan-free l (free-pad z a) u refl refl)
     ∙ scan-append (ins p Outside s) (r ++ ending p) u
@@ -208,12 +201,12 @@ inserted-added : (p s : List ℕ) → added p Outside s ≡ inserted p s
 inserted-added p s = added-resets p s ∙ sym (inserted-resets p s)
 
 -- after a prefix and padding no sequence is open
-opened : (p : List ℕ) → Whole p → (z : Padding) (n : ℕ) (t : Scan) → scan t (p ++ replicate n (padByte z)) ≡ resting (t .sequences + length p) (t .resets)
+pub opened : (p : List ℕ) → Whole p → (z : Padding) (n : ℕ) (t : Scan) → scan t (p ++ replicate n (padByte z)) ≡ resting (t .sequences + length p) (t .resets)
 opened p w z n t =
-    scan-append p (replicate n (padByte z)) t ∙ ap (λ (u : Scan). scan u (replicate n (padByte z))) (w t)
+    scan-append p (replicate n (padByte z)) t ∙ ap (λ (u : Scan). scan u (replicate n (padByte z))) (w .scanned t)
     ∙ scan-free (replicate n (padByte z)) (free-pad z n) (resting (t .sequences + length p) (t .resets)) refl refl
 
-scan-inserted : (p : List ℕ) → WholeOrNone p → (z : Padding) (n : ℕ) (s : List ℕ) (t : Scan)
+pub scan-inserted : (p : List ℕ) → WholeOrNone p → (z : Padding) (n : ℕ) (s : List ℕ) (t : Scan)
     → scan (scan t (p ++ replicate n (padByte z))) (reinserted p s) ≡ bump (scan (scan t (p ++ replicate n (padByte z))) s) (inserted p s)
 scan-inserted p none z n s t =
     let u = scan t (replicate n (padByte z)) in

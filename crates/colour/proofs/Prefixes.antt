@@ -9,6 +9,7 @@ use borrow.Author.Tests.{ne-eqb}
 use Rattle.buffer.specs.Bytes.{bytes}
 use Rattle.utf8.specs.Utf8.{within}
 use Rattle.characters.specs.Characters.{chars}
+use Rattle.widths.specs.declared.Wides.{Wides}
 use Rattle.words.specs.declared.Color.{Color}
 use Rattle.words.specs.declared.Color.the-variants.{Black, Red, Green, Yellow, Blue, Magenta, Cyan, White, BrightBlack, BrightWhite}
 use Rattle.runs.specs.Runs.{digit}
@@ -22,6 +23,7 @@ use Rattle.colour.specs.declared.Scan.{Scan}
 use Rattle.colour.specs.Sequences.{esc, inSequence}
 use Rattle.colour.specs.Looks.{foreground, inkCodes, where-it-applies, codes, following, sequence, prefix}
 use Rattle.colour.specs.Formatting.{prefixIn}
+use Rattle.colour.specs.Seeing.{letGo, lookedAt, seenAfter}
 use Rattle.colour.specs.Machine.{actIn, actOf, moved, scan, resting, start, leftBy, strip}
 use Rattle.colour.proofs.Acts.{Parameters, parameters-append, act-onward}
 use Rattle.colour.proofs.Wholes.{Whole, WholeOrNone, none, one}
@@ -126,13 +128,31 @@ parameters-scan (b ∷ s) k n r g =
     let e : n + (k + 1 + (length s + 1)) ≡ n + (k + (length (b ∷ s) + 1)) = omega arith in
     ap (λ (a : Act). scan (moved a t) (s ++ 0x6D ∷ [])) (act-onward Digits b tt (g .0)) ∙ parameters-scan s (k + 1) n r (g .1) ∙ ap (λ (m : ℕ). resting m r) e
 
-code-whole : (b : ℕ) (s : List ℕ) → Code (b ∷ s) → Whole (esc ∷ 0x5B ∷ b ∷ (s ++ 0x6D ∷ []))
+parameters-seen : (s : List ℕ) (k n r : ℕ) (w : Wides) → Parameters s → seenAfter (record { state = Digits; held = k; sequences = n; resets = r }) w (s ++ 0x6D ∷ []) ≡ w
 unfolding actOf actIn
-code-whole b s g t =
+parameters-seen [] k n r w g = refl
+parameters-seen (b ∷ s) k n r w g =
+    let t : Scan = record { state = Digits; held = k; sequences = n; resets = r } in
+    ap (λ (a : Act). seenAfter (moved a t) (lookedAt a k w b) (s ++ 0x6D ∷ [])) (act-onward Digits b tt (g .0)) ∙ parameters-seen s (k + 1) n r w (g .1)
+
+code-seen : (b : ℕ) (s : List ℕ) → Code (b ∷ s) → (t : Scan) (w : Wides) → seenAfter t w (esc ∷ 0x5B ∷ b ∷ (s ++ 0x6D ∷ [])) ≡ letGo (t .held) w
+unfolding actOf actIn
+code-seen b s g t w =
+    let u : Scan = record { state = Bracket; held = 2; sequences = t .sequences; resets = t .resets } in
+    let v = letGo (t .held) w in
+    ap (λ (a : Act). seenAfter (moved a u) (lookedAt a 2 v b) (s ++ 0x6D ∷ [])) (act-first b (g .0 .0) (g .0 .1)) ∙ parameters-seen s 3 (t .sequences) (t .resets) v (g .1)
+
+code-scan : (b : ℕ) (s : List ℕ) → Code (b ∷ s) → (t : Scan)
+    → scan t (esc ∷ 0x5B ∷ b ∷ (s ++ 0x6D ∷ [])) ≡ resting (t .sequences + length (esc ∷ 0x5B ∷ b ∷ (s ++ 0x6D ∷ []))) (t .resets)
+unfolding actOf actIn
+code-scan b s g t =
     let u : Scan = record { state = Bracket; held = 2; sequences = t .sequences; resets = t .resets } in
     let e : t .sequences + (3 + (length s + 1)) ≡ t .sequences + length (esc ∷ 0x5B ∷ b ∷ (s ++ 0x6D ∷ [])) = omega (arith, length-append s (0x6D ∷ [])) in
     ap (λ (a : Act). scan (moved a u) (s ++ 0x6D ∷ [])) (act-first b (g .0 .0) (g .0 .1)) ∙ parameters-scan s 3 (t .sequences) (t .resets) (g .1)
     ∙ ap (λ (m : ℕ). resting m (t .resets)) e
+
+code-whole : (b : ℕ) (s : List ℕ) → Code (b ∷ s) → Whole (esc ∷ 0x5B ∷ b ∷ (s ++ 0x6D ∷ []))
+code-whole b s g = record { scanned = code-scan b s g; silent = code-seen b s g }
 
 pub whole-sequence : (cs : List (List ℕ)) → Codes cs → (sequence cs ≡ [] → ⊥) → Whole (sequence cs)
 unfolding sequence
@@ -145,7 +165,7 @@ whole-sequence ((b ∷ c) ∷ cs) h n =
 -- each byte of a whole sequence that is not seen is a character
 pub chars-whole : (p : List ℕ) → Whole p → Shows p [] → chars p ≡ length p
 chars-whole p w g =
-    omega (arith, visible-chars p, ap chars (shows-visible p [] g), ap (λ (t : Scan). t .sequences) (w start))
+    omega (arith, visible-chars p, ap chars (shows-visible p [] g), ap (λ (t : Scan). t .sequences) (w .scanned start))
 
 whole-or-none-sequence : (cs : List (List ℕ)) → Codes cs → WholeOrNone (sequence cs)
 unfolding sequence

@@ -4,7 +4,7 @@ use mathlib.Core.Bool.{Bool, true, false}
 use mathlib.Core.List.{List, [], _∷_, _++_}
 use lib.ListN.{length, replicate}
 use Rattle.buffer.specs.Bytes.{byte}
-use Rattle.characters.specs.Characters.{chars}
+use Rattle.widths.specs.Widths.{count}
 use Rattle.words.specs.declared.Alignment.{Alignment}
 use Rattle.words.specs.declared.Alignment.the-variants.{Left, Center, Right}
 use Rattle.words.specs.declared.Padding.{Padding}
@@ -15,13 +15,9 @@ use Rattle.colour.specs.declared.Format.{Format}
 use Rattle.colour.specs.Sequences.{reset, visible, reinserted}
 use Rattle.colour.specs.Looks.{prefix}
 
--- what padding counts: "visible characters (Unicode scalar values)"
-unfoldable pub count : Settings → List ℕ → ℕ
-count s t = chars t
-
--- "Padding due is width minus visible characters, or 0"
+-- "Padding due is width minus visible characters, or 0"; in the places rule "visible characters read as places"
 unfoldable pub due : Settings → Format → List ℕ → ℕ
-due s f t = f .width - count s (visible t)
+due s f t = f .width - count (s .rule) (visible t)
 
 -- "With colour on and a colour or style that applies: prefix"
 unfoldable pub prefixIn : Bool → Look → List ℕ

@@ -5,4 +5,5 @@ pub mod Formatting
 pub mod Shown
 pub mod Texts
 pub mod Machine
+pub mod Seeing
 pub mod Computing

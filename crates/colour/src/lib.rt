@@ -1,4 +1,5 @@
 // Colour: sequences in a text, the prefix of a look, and one formatted text.
+use widths::Rule;
 use words::Alignment;
 use words::Color;
 use words::Padding;
@@ -8,6 +9,7 @@ use words::Styles;
 pub struct Settings {
     pub colour: bool,
     pub straight: bool,
+    pub rule: Rule,
 }
 
 // The colour that applies to a text.

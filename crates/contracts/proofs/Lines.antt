@@ -98,6 +98,9 @@ prefix-len-settled _ _ _ _ _ _ p q = (same (p .0) (q .0), refl)
 
 -- ---- scanning
 
+act-of-settled : Settled 0 scanning.act_of.Kinds.ps scanning.act_of.Kinds.r scanning.act_of.Reads.Post
+act-of-settled _ _ _ _ _ _ p q = (same p q, refl)
+
 in-sequence-settled : Settled 0 scanning.in_sequence.Kinds.ps scanning.in_sequence.Kinds.r scanning.in_sequence.Reads.Post
 in-sequence-settled _ _ _ _ _ _ p q = (same p q, refl)
 

@@ -10,6 +10,8 @@ use Rattle.refusals.proofs as refusals
 use Rattle.buffer.proofs as buffer
 use Rattle.utf8.proofs as utf8
 use Rattle.characters.proofs as characters
+use Rattle.points.proofs as points
+use Rattle.widths.proofs as widths
 use Rattle.runs.proofs as runs
 use Rattle.letters.proofs as letters
 use Rattle.spelling.proofs as spelling
@@ -56,6 +58,34 @@ is-utf8-settled _ _ _ _ _ _ p q = (same p q, refl)
 
 count-chars-settled : Settled 1 characters.count_chars.Kinds.ps characters.count_chars.Kinds.r characters.count_chars.Reads.Post
 count-chars-settled _ _ _ _ _ _ p q = (λ i. record { chars = same (p .0) (q .0) i; met = same (p .1) (q .1) i }, refl)
+
+-- ---- points
+
+size-of-settled : Settled 0 points.decoding.size_of.Kinds.ps points.decoding.size_of.Kinds.r points.decoding.size_of.Reads.Post
+size-of-settled _ _ _ _ _ _ p q = (same (p .0) (q .0), refl)
+
+byte-at-settled : Settled 1 points.decoding.byte_at.Kinds.ps points.decoding.byte_at.Kinds.r points.decoding.byte_at.Reads.Post
+byte-at-settled _ _ _ _ _ _ p q = (same p q, refl)
+
+with-six-settled : Settled 0 points.decoding.with_six.Kinds.ps points.decoding.with_six.Kinds.r points.decoding.with_six.Reads.Post
+with-six-settled _ _ _ _ _ _ p q = (same (p .0) (q .0), refl)
+
+point-settled : Settled 0 points.decoding.point.Kinds.ps points.decoding.point.Kinds.r points.decoding.point.Reads.Post
+point-settled _ _ _ _ _ _ p q = (same p q, refl)
+
+is-among-settled : Settled 1 points.search.is_among.Kinds.ps points.search.is_among.Kinds.r points.search.is_among.Reads.Post
+is-among-settled _ _ _ _ _ _ p q = (same p q, refl)
+
+-- ---- widths
+
+begun-by-settled : Settled 0 widths.counting.begun_by.Kinds.ps widths.counting.begun_by.Kinds.r widths.counting.begun_by.Reads.Post
+begun-by-settled _ _ _ _ _ _ p q = (same p q, refl)
+
+advance-settled : Settled 1 widths.counting.advance.Kinds.ps widths.counting.advance.Kinds.r widths.counting.advance.Reads.Post
+advance-settled _ _ _ _ _ _ p q = (same p q, refl)
+
+run-text-settled : Settled 1 widths.table.run_text.Kinds.ps widths.table.run_text.Kinds.r widths.table.run_text.Reads.Post
+run-text-settled _ _ _ _ _ _ p q = (same p q, refl)
 
 -- ---- runs
 

@@ -113,9 +113,9 @@ module _ (t : List ℕ) (settings : ℕ) (d : List ℕ) (room : ℕ) where
   tried c (read s) e = checked c s e (recordRefusal (formOf settings) (laidIn settings d)) refl
   tried c (refusal r) e = by-template c r (refused-when (editionOf settings) t r e)
 
-  no-call : (b : Bool) → ltb settings 16 ≡ b → (b && rightSize (formOf settings) d) ≡ false → NoCall settings d
+  no-call : (b : Bool) → ltb settings 32 ≡ b → (b && rightSize (formOf settings) d) ≡ false → NoCall settings d
   no-call true e k = inr k
-  no-call false e k = inl (ltb-false settings 16 e)
+  no-call false e k = inl (ltb-false settings 32 e)
 
   call-when : CallWhen (callOutcome settings t d room)
   unfolding callOutcome isCall isKnown outcome
@@ -123,18 +123,18 @@ module _ (t : List ℕ) (settings : ℕ) (d : List ℕ) (room : ℕ) where
     where
       by : (b : Bool) → isCall settings d ≡ b
           → CallWhen (elim b [ true ↦ outcome (formOf settings) (editionOf settings) (settingsOf settings) t (laidIn settings d) room | false ↦ refused NotASheet ])
-      by true e = let c = both-true (ltb settings 16) (rightSize (formOf settings) d) e in tried (ltb-true settings 16 (c .0), c .1) (readBy (editionOf settings) t) refl
-      by false e = no-call (ltb settings 16) refl e
+      by true e = let c = both-true (ltb settings 32) (rightSize (formOf settings) d) e in tried (ltb-true settings 32 (c .0), c .1) (readBy (editionOf settings) t) refl
+      by false e = no-call (ltb settings 32) refl e
 
   -- ---- and nothing else does
 
-  known : settings < 16 → isKnown settings ≡ true
+  known : settings < 32 → isKnown settings ≡ true
   unfolding isKnown
-  known h = lt-ltb settings 16 h
+  known h = lt-ltb settings 32 h
 
-  unknown : 16 ≤ settings → isKnown settings ≡ false
+  unknown : 32 ≤ settings → isKnown settings ≡ false
   unfolding isKnown
-  unknown h = le-ltb settings 16 h
+  unknown h = le-ltb settings 32 h
 
   called : IsCall settings d → callOutcome settings t d room ≡ outcome (formOf settings) (editionOf settings) (settingsOf settings) t (laidIn settings d) room
   called c = sym (is-call settings t d room (known (c .0)) (c .1))

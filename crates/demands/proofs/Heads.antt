@@ -14,6 +14,7 @@ use Rattle.buffer.specs.Table.{Maybe, none, some, Entry, _means_, lookup}
 use Rattle.buffer.proofs.Sameness.{same→≡}
 use Rattle.buffer.proofs.Tables.{lookup-on, lookup-none}
 use Rattle.refusals.specs.declared.Refusal.{Refusal}
+use Rattle.widths.specs.declared.Rule.{Rule}
 use Rattle.colour.specs.declared.Settings.{Settings}
 use Rattle.words.specs.declared.LogMetadata.{LogMetadata}
 use Rattle.words.specs.declared.LogMetadata.the-variants.{HeadSerial}
@@ -26,7 +27,7 @@ use Rattle.record.proofs.Sizes.{right-size, long-enough}
 use Rattle.checks.specs.Checks.{hostWithoutLevel, badNumbers, absentField, badlyMarked, fieldsRefusal, recordRefusal}
 use Rattle.checks.proofs.Passing.{passes}
 use Rattle.fields.specs.Texts.{noHead, orPlaceholder, there, wording}
-use Rattle.settings.specs.Bits.{isKnown, settingsOf, editionOf, formOf}
+use Rattle.settings.specs.Bits.{isKnown, ruleOf, settingsOf, editionOf, formOf}
 use Rattle.template.specs.declared.Edition.{Edition}
 use Rattle.template.specs.Template.{Template, read, refusal, readBy}
 use Rattle.answer.specs.Answers.{passed, recordOutcome, byTemplate, outcome, callOutcome}
@@ -182,7 +183,7 @@ even : (n k : ℕ) → (n + 2 * k) % 2 ≡ n % 2
 even n k = omega arith
 
 -- bit 8 alone is set
-module _ (settings : ℕ) (h : settings < 8) where
+module _ (settings : ℕ) (g : settings < 32) (h : settings % 16 < 8) where
   new-form : formOf (settings + 8) ≡ Form.New
   unfolding formOf
   new-form = rw (eq-eqb ((settings + 8) / 8 % 2) 1 (omega (arith, h)), formOf)
@@ -191,13 +192,19 @@ module _ (settings : ℕ) (h : settings < 8) where
   unfolding formOf
   old-form = rw (ne-eqb (settings / 8 % 2) 1 (λ e. omega (arith, h, e)), formOf)
 
+  same-rule : ruleOf (settings + 8) ≡ ruleOf settings
+  unfolding ruleOf
+  same-rule =
+      let q : (settings + 8) / 16 ≡ settings / 16 = omega (arith, h) in
+      ap (λ (n : ℕ). elim (eqb (n % 2) 1) as (λ _. Rule) [ true ↦ Rule.Places | false ↦ Rule.Characters ]) q
+
   same-settings : settingsOf (settings + 8) ≡ settingsOf settings
   unfolding settingsOf
   same-settings =
       let p : (settings + 8) % 2 ≡ settings % 2 = even settings 4 in
       let q : (settings + 8) / 2 ≡ settings / 2 + 4 = omega arith in
       let r : (settings + 8) / 2 % 2 ≡ settings / 2 % 2 = ap (λ (n : ℕ). n % 2) q ∙ even (settings / 2) 2 in
-      λ k. record { colour = eqb (p k) 1; straight = eqb (r k) 1 }
+      λ k. record { colour = eqb (p k) 1; straight = eqb (r k) 1; rule = same-rule k }
 
   same-edition : editionOf (settings + 8) ≡ editionOf settings
   unfolding editionOf
@@ -208,7 +215,7 @@ module _ (settings : ℕ) (h : settings < 8) where
 
   known : (isKnown (settings + 8) ≡ true) × (isKnown settings ≡ true)
   unfolding isKnown
-  known = (lt-ltb (settings + 8) 16 (omega (arith, h)), lt-ltb settings 16 (omega (arith, h)))
+  known = (lt-ltb (settings + 8) 32 (omega (arith, g, h)), lt-ltb settings 32 g)
 
 -- ---- the demand
 
@@ -238,21 +245,21 @@ module _ (d : List ℕ) where
         long-enough Form.New (renewed d) (omega (arith, n, sized .0))
         ∙ eq-eqb (serialEnd Form.New (renewed d)) (length (renewed d)) (omega (arith, n, serial-to d (sized .0), sized .1))
 
-    same-answer : (settings : ℕ) → settings < 8 → laidOut Form.Old d .mask < 8 → (t : List ℕ) (room : ℕ)
+    same-answer : (settings : ℕ) → settings < 32 → settings % 16 < 8 → laidOut Form.Old d .mask < 8 → (t : List ℕ) (room : ℕ)
         → callOutcome (settings + 8) t (renewed d) room ≡ callOutcome settings t d room
-    same-answer settings h g t room =
+    same-answer settings o8 h g t room =
         let l = laidOut Form.Old d in
-        let f = new-form settings h in
-        let o = old-form settings h in
-        let edition = same-edition settings h in
-        let set = same-settings settings h in
+        let f = new-form settings o8 h in
+        let o = old-form settings o8 h in
+        let edition = same-edition settings o8 h in
+        let set = same-settings settings o8 h in
         let same = same-record d (sized .0) in
-        sym (is-call (settings + 8) t (renewed d) room (known settings h .0) (ap (λ (x : Form). rightSize x (renewed d)) f ∙ same-size))
+        sym (is-call (settings + 8) t (renewed d) room (known settings o8 h .0) (ap (λ (x : Form). rightSize x (renewed d)) f ∙ same-size))
         ∙ (λ k. outcome (f k) (edition k) (set k) t (laidOut (f k) (renewed d)) room)
         ∙ ap (λ (x : Laid). outcome Form.New (editionOf settings) (settingsOf settings) t x room) same
         ∙ same-outcome (editionOf settings) (settingsOf settings) t l room g
         ∙ (λ k. outcome (sym o k) (editionOf settings) (settingsOf settings) t (laidOut (sym o k) d) room)
-        ∙ is-call settings t d room (known settings h .1) (ap (λ (x : Form). rightSize x d) o ∙ e)
+        ∙ is-call settings t d room (known settings o8 h .1) (ap (λ (x : Form). rightSize x d) o ∙ e)
 
   pub form-demand : FormDemand d
   form-demand = record {

@@ -11,7 +11,7 @@ use Rattle.colour.specs.Shown.{Shown, text, specifier, group, Members, none, mo
 use Rattle.colour.specs.Texts.{Free, Quiet, Quiets}
 use Rattle.colour.proofs.Trees.{eachs-all}
 use Rattle.colour.proofs.Shows.{Shows, shows-visible, shows-nil, shows-append, shows-free, visible-free, free-append}
-use Rattle.colour.proofs.Counts.{due-any-mode}
+use Rattle.colour.proofs.Counts.{modes-keep, due-any-mode}
 use Rattle.colour.proofs.Formatted.{withPadding, shows-formatted, formatted-plain, free-with-padding, count-formatted, padded-plain, padded-straight, padded-crate}
 use Rattle.demands.specs.Demand3.{Fills, FallsShort, Demand3}
 use Rattle.colour.specs.Modes.{plain, straight, coloured}
@@ -44,7 +44,7 @@ module _ (s : Settings) where
   formatted-same f t v h g =
       let e : visible t ≡ visible v = shows-visible t v h ∙ sym (visible-free v g) in
       let n : padded (straight s) f t ≡ padded (plain s) f v =
-      padded-straight (straight s) f t refl ∙ due-any-mode (straight s) (plain s) f t v e ∙ sym (padded-plain (plain s) f v refl) in
+      padded-straight (straight s) f t refl ∙ due-any-mode (straight s) (plain s) refl f t v e ∙ sym (padded-plain (plain s) f v refl) in
       subst (λ (x : List ℕ). Shows (formatted (straight s) f t) x)
       (ap (λ (k : ℕ). withPadding f k v) n ∙ sym (formatted-plain (plain s) f v refl))
       (shows-formatted (straight s) f t v h)
@@ -80,7 +80,7 @@ formatted-one : (s : Settings) (f : Format) (t : List ℕ) → formatted (plain 
 formatted-one s f t =
     formatted-plain (plain s) f t refl
     ∙ ap (λ (n : ℕ). withPadding f n t)
-    (padded-plain (plain s) f t refl ∙ due-any-mode (plain s) (plain (straight s)) f t t refl ∙ sym (padded-plain (plain (straight s)) f t refl))
+    (padded-plain (plain s) f t refl ∙ due-any-mode (plain s) (plain (straight s)) refl f t t refl ∙ sym (padded-plain (plain (straight s)) f t refl))
     ∙ sym (formatted-plain (plain (straight s)) f t refl)
 
 mutual
@@ -99,6 +99,7 @@ mutual
 
 pub demand3 : (s : Settings) (m : Members) → Demand3 s m
 demand3 s m = record {
+  kept = modes-keep s;
   same = λ q. shows-visible (joined (straight s) m) (joined (plain s) m) (same-joined s m q .0);
   plain-free = λ q. same-joined s m q .1;
   plain-one = joined-one s m;

@@ -15,3 +15,4 @@ pub mod Strictly
 pub mod Templates
 pub mod TwoCalls
 pub mod VisibleText
+pub mod Places

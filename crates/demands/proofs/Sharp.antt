@@ -9,6 +9,8 @@ use Rattle.buffer.specs.Bytes.{bytes}
 use Rattle.buffer.specs.Computing as buffer
 use Rattle.utf8.specs.Computing as utf8
 use Rattle.characters.specs.Computing as characters
+use Rattle.points.specs.Computing as points
+use Rattle.widths.specs.Computing as widths
 use Rattle.runs.specs.Computing as runs
 use Rattle.letters.specs.Computing as letters
 use Rattle.words.specs.Computing as words
@@ -37,7 +39,7 @@ use Rattle.demands.specs.OneLine.{error-hello}
 
 -- `same` does not hold of every line: a text may be a colour sequence
 premise-needed : ((m : Members) → visible (joined (straight off) m) ≡ joined (plain off) m) → ⊥
-unfolding utf8.computes characters.computes runs.computes colour.computes
+unfolding utf8.computes characters.computes points.computes widths.computes runs.computes colour.computes
 premise-needed h = let e : _≡_ {A = ℕ} 0 4 = ap length (h (more (text (bytes "\u{1b}[1m")) none)) in omega arith
 
 -- and so is the plain line not without byte 27
@@ -47,7 +49,7 @@ premise-needed-free h = h (more (text (bytes "\u{1b}[1m")) none) .0 refl
 
 -- the crate's mode does not show the plain line, not even where no text holds byte 27
 crate-not-same : ((m : Members) → Quiets m → visible (joined (coloured off) m) ≡ joined (plain off) m) → ⊥
-unfolding utf8.computes characters.computes runs.computes colour.computes
+unfolding utf8.computes characters.computes points.computes widths.computes runs.computes colour.computes
 crate-not-same h = let e : _≡_ {A = ℕ} 13 15 = ap length (h error-hello quiet) in omega arith
   where
     quiet : Quiets error-hello
@@ -58,7 +60,7 @@ crate-not-same h = let e : _≡_ {A = ℕ} 13 15 = ap length (h error-hello quie
 
 -- nor does each group fill its extent there
 crate-does-not-fill : ((m : Members) → Eachs (Fills (coloured off)) (coloured off) m) → ⊥
-unfolding utf8.computes characters.computes runs.computes colour.computes
+unfolding utf8.computes characters.computes points.computes widths.computes runs.computes colour.computes
 crate-does-not-fill h = let e : _≡_ {A = ℕ} 7 9 = h error-hello .0 .0 in omega arith
 
 -- ---- the same of line calls
@@ -87,7 +89,7 @@ seen a t d h k l =
 
 -- a message that is a colour sequence is not seen in straight mode
 call-premise-needed : ((t d : List ℕ) → SameSeen 3 t d) → ⊥
-unfolding buffer.computes utf8.computes characters.computes runs.computes letters.computes words.computes
+unfolding buffer.computes utf8.computes characters.computes points.computes widths.computes runs.computes letters.computes words.computes
     segments.computes parts.computes braces.computes building.computes template.computes
     colour.computes settings.computes records.computes checks.computes formats.computes paths.computes fields.computes answer.computes
 call-premise-needed h =
@@ -98,7 +100,7 @@ call-premise-needed h =
 
 -- in the crate's mode the padding of a group falls short
 call-crate-not-same : ((t d : List ℕ) → SameSeen 1 t d) → ⊥
-unfolding buffer.computes utf8.computes characters.computes runs.computes letters.computes words.computes
+unfolding buffer.computes utf8.computes characters.computes points.computes widths.computes runs.computes letters.computes words.computes
     segments.computes parts.computes braces.computes building.computes template.computes
     colour.computes settings.computes records.computes checks.computes formats.computes paths.computes fields.computes answer.computes
 call-crate-not-same h =

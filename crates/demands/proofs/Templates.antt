@@ -368,13 +368,13 @@ module _ (edition : Edition) (t : List ℕ) where
 -- ---- the calls about a template alone
 
 module _ (t : List ℕ) (settings : ℕ) where
-  asked-known : settings < 16 → templateAsked settings t ≡ readBy (editionOf settings) t
+  asked-known : settings < 32 → templateAsked settings t ≡ readBy (editionOf settings) t
   unfolding templateAsked isKnown
-  asked-known h = rw (lt-ltb settings 16 h, templateAsked)
+  asked-known h = rw (lt-ltb settings 32 h, templateAsked)
 
-  asked-unknown : 16 ≤ settings → templateAsked settings t ≡ refusal NotASheet
+  asked-unknown : 32 ≤ settings → templateAsked settings t ≡ refusal NotASheet
   unfolding templateAsked isKnown
-  asked-unknown h = rw (le-ltb settings 16 h, templateAsked)
+  asked-unknown h = rw (le-ltb settings 32 h, templateAsked)
 
   -- no template is refused with 15
   not-15 : (x : Template) → ((r : Refusal) → x ≡ refusal r → (number r ≤ 9) ⊎ ((p : ℕ) × (r ≡ Dropped p))) → (checkOf x ≡ 15 → ⊥) × (timestampOf x ≡ 15 → ⊥)
@@ -391,12 +391,12 @@ module _ (t : List ℕ) (settings : ℕ) where
       by (inr (p, q)) e = let z : number r ≡ 17 = ap number q in omega (arith, z, e)
 
   -- where one of the two answers is 15, the byte is not known
-  only-15 : (f : Template → ℕ) → (f (readBy (editionOf settings) t) ≡ 15 → ⊥) → f (templateAsked settings t) ≡ 15 → 16 ≤ settings
-  only-15 f h e = by (ltb settings 16) refl
+  only-15 : (f : Template → ℕ) → (f (readBy (editionOf settings) t) ≡ 15 → ⊥) → f (templateAsked settings t) ≡ 15 → 32 ≤ settings
+  only-15 f h e = by (ltb settings 32) refl
     where
-      by : (b : Bool) → ltb settings 16 ≡ b → 16 ≤ settings
-      by true k = absurd (h (ap f (sym (asked-known (ltb-true settings 16 k))) ∙ e))
-      by false k = ltb-false settings 16 k
+      by : (b : Bool) → ltb settings 32 ≡ b → 32 ≤ settings
+      by true k = absurd (h (ap f (sym (asked-known (ltb-true settings 32 k))) ∙ e))
+      by false k = ltb-false settings 32 k
 
   pub check-demand1 : CheckDemand1 t settings
   unfolding checkOf timestampOf refusalTold

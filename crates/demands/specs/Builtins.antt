@@ -10,6 +10,8 @@ use Rattle.template.specs.Template.{Template, read, refusal, readBy}
 use Rattle.buffer.specs.Computing as buffer
 use Rattle.utf8.specs.Computing as utf8
 use Rattle.characters.specs.Computing as characters
+use Rattle.points.specs.Computing as points
+use Rattle.widths.specs.Computing as widths
 use Rattle.runs.specs.Computing as runs
 use Rattle.letters.specs.Computing as letters
 use Rattle.words.specs.Computing as words
@@ -47,7 +49,7 @@ isRead (refusal r) = false
 
 -- whether each of some templates is read by an edition
 pub allRead : Edition → List (List ℕ) → Bool
-unfolding buffer.computes utf8.computes characters.computes runs.computes letters.computes words.computes
+unfolding buffer.computes utf8.computes characters.computes points.computes widths.computes runs.computes letters.computes words.computes
     segments.computes parts.computes braces.computes building.computes unused.computes template.computes
 allRead edition [] = true
 allRead edition (t ∷ rest) = isRead (readBy edition t) && allRead edition rest

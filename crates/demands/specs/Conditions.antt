@@ -160,11 +160,11 @@ RecordPasses form d = (BadlyMarked form d → ⊥) × AllPass (fieldsOf d)
 
 -- "an unknown settings bit or a record of the wrong size is 15"
 abbrev pub NoCall : ℕ → List ℕ → Type 0
-NoCall settings d = (16 ≤ settings) ⊎ (rightSize (formOf settings) d ≡ false)
+NoCall settings d = (32 ≤ settings) ⊎ (rightSize (formOf settings) d ≡ false)
 
 -- neither
 abbrev pub IsCall : ℕ → List ℕ → Type 0
-IsCall settings d = (settings < 16) × (rightSize (formOf settings) d ≡ true)
+IsCall settings d = (settings < 32) × (rightSize (formOf settings) d ≡ true)
 
 -- what the bytes of a call lay out, in the form that its settings say
 abbrev pub laidIn : ℕ → List ℕ → Laid

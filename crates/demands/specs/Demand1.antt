@@ -89,10 +89,10 @@ pub record TimestampDemand1 (edition : Edition) (t : List ℕ) : Type 0 where
 
 -- the two calls about a template alone, with a settings byte: an unknown bit is 15, "first"; else the edition asked for decides
 pub record CheckDemand1 (t : List ℕ) (settings : ℕ) : Type 0 where
-  pub is-15 : checkEntry t settings ≡ 15 ↔ (16 ≤ settings)
-  pub checked : settings < 16 → checkEntry t settings ≡ templateNumber (editionOf settings) t
-  pub timestamp-15 : timestampEntry t settings ≡ 15 ↔ (16 ≤ settings)
-  pub asked : settings < 16 → timestampEntry t settings ≡ timestampOf (readBy (editionOf settings) t)
+  pub is-15 : checkEntry t settings ≡ 15 ↔ (32 ≤ settings)
+  pub checked : settings < 32 → checkEntry t settings ≡ templateNumber (editionOf settings) t
+  pub timestamp-15 : timestampEntry t settings ≡ 15 ↔ (32 ≤ settings)
+  pub asked : settings < 32 → timestampEntry t settings ≡ timestampOf (readBy (editionOf settings) t)
 
 -- ---- any bytes as record
 

@@ -14,6 +14,8 @@ use Rattle.answer.specs.Answers.{Outcome, line, refused, outcome}
 use Rattle.buffer.specs.Computing as buffer
 use Rattle.utf8.specs.Computing as utf8
 use Rattle.characters.specs.Computing as characters
+use Rattle.points.specs.Computing as points
+use Rattle.widths.specs.Computing as widths
 use Rattle.runs.specs.Computing as runs
 use Rattle.letters.specs.Computing as letters
 use Rattle.words.specs.Computing as words
@@ -132,7 +134,7 @@ put-as (refuses n) (refused r) = refuses (number r)
 
 -- room enough for each of them
 pub said : List Example → List Says
-unfolding buffer.computes utf8.computes characters.computes runs.computes letters.computes words.computes
+unfolding buffer.computes utf8.computes characters.computes points.computes widths.computes runs.computes letters.computes words.computes
     segments.computes parts.computes braces.computes building.computes template.computes
     colour.computes records.computes checks.computes formats.computes paths.computes fields.computes answer.computes
 said [] = []

@@ -1,5 +1,5 @@
 -- Document 02, E7: which head measured it. Assumes nothing.
-use Prim.Native.Nat.{ℕ, _+_, _<_}
+use Prim.Native.Nat.{ℕ, _+_, _%_, _<_}
 use mathlib.Core.Path.{_≡_}
 use mathlib.Core.Bool.{true, false}
 use mathlib.Core.List.{List, [], _∷_, _++_}
@@ -62,8 +62,8 @@ pub record FormDemand (d : List ℕ) : Type 0 where
   pub old-absent : recordRefusal Form.Old (laidOut Form.Old d) ≡ none → recordOf (laidOut Form.Old d) .serial ≡ absent
   -- no bytes are a record in both forms: one that is taken for the other is 15, never a line of something else
   pub apart : rightSize Form.Old d ≡ true → rightSize Form.New d ≡ false
-  -- laid out anew it is the same record, and gets the same answer, but for a mask of 8 or more, which only the new form allows
+  -- laid out anew it is the same record, and gets the same answer by any known settings, but for a mask of 8 or more, which only the new form allows
   pub same-size : rightSize Form.Old d ≡ true → rightSize Form.New (renewed d) ≡ true
   pub same-record : rightSize Form.Old d ≡ true → laidOut Form.New (renewed d) ≡ laidOut Form.Old d
-  pub same-answer : rightSize Form.Old d ≡ true → (settings : ℕ) → settings < 8 → laidOut Form.Old d .mask < 8 → (t : List ℕ) (room : ℕ)
+  pub same-answer : rightSize Form.Old d ≡ true → (settings : ℕ) → settings < 32 → settings % 16 < 8 → laidOut Form.Old d .mask < 8 → (t : List ℕ) (room : ℕ)
       → callOutcome (settings + 8) t (renewed d) room ≡ callOutcome settings t d room

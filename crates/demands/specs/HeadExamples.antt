@@ -8,6 +8,8 @@ use Rattle.answer.specs.Answers.{callOutcome}
 use Rattle.buffer.specs.Computing as buffer
 use Rattle.utf8.specs.Computing as utf8
 use Rattle.characters.specs.Computing as characters
+use Rattle.points.specs.Computing as points
+use Rattle.widths.specs.Computing as widths
 use Rattle.runs.specs.Computing as runs
 use Rattle.letters.specs.Computing as letters
 use Rattle.words.specs.Computing as words
@@ -79,7 +81,8 @@ bounded =
     ∷ call 8 (new 8 (0xFF ∷ []) (replicate 33 (byte "H"))) (bytes "{s}") (refuses 12)
     ∷ call 8 (old 0) (bytes "{s}") (refuses 15)
     ∷ call 0 (from 0 []) (bytes "{s}") (refuses 15)
-    ∷ call 16 (old 0) (bytes "{s}") (refuses 15)
+    ∷ call 16 (old 0) (bytes "{s}") (prints (bytes "hello"))
+    ∷ call 32 (old 0) (bytes "{s}") (refuses 15)
     ∷ []
 
 -- "Templates in which `d` is tried as a name now part from the crate", in three ways; the last three do not part
@@ -98,7 +101,7 @@ parted =
 
 -- what the definitions answer, with room enough for each of them
 pub answered : List Call → List Says
-unfolding buffer.computes utf8.computes characters.computes runs.computes letters.computes words.computes
+unfolding buffer.computes utf8.computes characters.computes points.computes widths.computes runs.computes letters.computes words.computes
     segments.computes parts.computes braces.computes building.computes template.computes
     colour.computes settings.computes records.computes checks.computes formats.computes paths.computes fields.computes answer.computes
 answered [] = []

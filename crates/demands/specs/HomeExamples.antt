@@ -18,6 +18,8 @@ use Rattle.answer.specs.Answers.{callOutcome}
 use Rattle.buffer.specs.Computing as buffer
 use Rattle.utf8.specs.Computing as utf8
 use Rattle.characters.specs.Computing as characters
+use Rattle.points.specs.Computing as points
+use Rattle.widths.specs.Computing as widths
 use Rattle.runs.specs.Computing as runs
 use Rattle.letters.specs.Computing as letters
 use Rattle.words.specs.Computing as words
@@ -89,7 +91,7 @@ namedPairs =
 
 -- what the definitions answer, with room enough for each of them
 pub bothAnswered : List Two → List Says
-unfolding buffer.computes utf8.computes characters.computes runs.computes letters.computes words.computes
+unfolding buffer.computes utf8.computes characters.computes points.computes widths.computes runs.computes letters.computes words.computes
     segments.computes parts.computes braces.computes building.computes unused.computes template.computes
     colour.computes settings.computes records.computes checks.computes formats.computes paths.computes fields.computes answer.computes
 bothAnswered [] = []
@@ -125,7 +127,7 @@ file-first = more (specifier FilePath unformatted) (more (text 3 4) (more (speci
 
 -- they are read so
 pub as-read : (readBy Edition.First (bytes "{L} {s}") ≡ read level-first) × (readBy Edition.First (bytes "{F} {s}") ≡ read file-first)
-unfolding buffer.computes utf8.computes runs.computes letters.computes words.computes segments.computes parts.computes braces.computes building.computes template.computes
+unfolding buffer.computes utf8.computes points.computes runs.computes letters.computes words.computes segments.computes parts.computes braces.computes building.computes template.computes
 as-read = (refl, refl)
 
 -- of two sites the records agree on every field that `{L} {s}` names

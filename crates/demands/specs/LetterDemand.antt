@@ -7,8 +7,9 @@ use lib.ListN.{length, getD}
 use Rattle.buffer.specs.Bytes.{character}
 use Rattle.utf8.specs.Utf8.{within, trail, valid}
 use Rattle.runs.specs.Runs.{letter, lettersEnd}
+use Rattle.points.specs.Ranges.{ends, risesFrom}
 use Rattle.letters.specs.Alphabetic.{alphabetic}
-use Rattle.letters.specs.Letters.{isAlphabetic, ends, risesFrom}
+use Rattle.letters.specs.Letters.{isAlphabetic}
 use Rattle.letters.specs.Marked.{marked}
 
 -- what is read as letters in a template

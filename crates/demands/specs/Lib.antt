@@ -8,6 +8,7 @@ pub mod Examples
 pub mod HeadDemand
 pub mod HeadExamples
 pub mod HomeDemand
+pub mod PlacesDemand
 pub mod HomeExamples
 pub mod LetterDemand
 pub mod Lines

@@ -4,6 +4,7 @@ use mathlib.Core.Path.{_≡_, refl}
 use mathlib.Core.Bool.{true, false}
 use mathlib.Core.List.{[], _∷_}
 use Rattle.buffer.specs.Bytes.{bytes}
+use Rattle.widths.specs.declared.Rule.{Rule}
 use Rattle.words.specs.declared.Alignment.the-variants.{Left}
 use Rattle.words.specs.declared.Color.the-variants.{Red}
 use Rattle.words.specs.declared.Padding.the-variants.{Space}
@@ -16,10 +17,12 @@ use Rattle.colour.specs.Sequences.{visible}
 use Rattle.colour.specs.Shown.{text, specifier, group, Members, none, more, joined}
 use Rattle.utf8.specs.Computing as utf8
 use Rattle.characters.specs.Computing as characters
+use Rattle.points.specs.Computing as points
+use Rattle.widths.specs.Computing as widths
 use Rattle.runs.specs.Computing as runs
 use Rattle.colour.specs.Computing as colour
 use Rattle.parts.specs.Parts.{unstyled}
-use Rattle.colour.specs.Modes.{off, plain, straight, coloured}
+use Rattle.colour.specs.Modes.{off, offBy, plain, straight, coloured}
 
 -- left-aligned, padded with spaces, in a width
 abbrev leftIn : ℕ → Styles → Ink → Format
@@ -48,12 +51,21 @@ three-modes :
     ∷ bytes "[ERROR]  |hello"
     ∷ bytes "\u{1b}[1m[\u{1b}[31mERROR\u{1b}[0m\u{1b}[1m]  \u{1b}[0m|hello"
     ∷ []
-unfolding utf8.computes characters.computes runs.computes colour.computes
+unfolding utf8.computes characters.computes points.computes widths.computes runs.computes colour.computes
 three-modes = refl
+
+-- what `{s:6}|` shows of `壁B3`, a site's name
+abbrev pub siteName : Members
+siteName = more (specifier (leftIn 6 unstyled Bare) (bytes "壁B3")) (more (text (bytes "|")) none)
+
+-- by the crate's rule it takes seven places of a screen, by the places rule six
+two-rules : joined (plain off) siteName ∷ joined (plain (offBy Rule.Places)) siteName ∷ [] ≡ bytes "壁B3   |" ∷ bytes "壁B3  |" ∷ []
+unfolding utf8.computes characters.computes points.computes widths.computes runs.computes colour.computes
+two-rules = refl
 
 -- a text that is a colour sequence is not seen in straight mode, and it is written with colour off
 premise-needed :
     visible (joined (straight off) (more (text (bytes "\u{1b}[1m")) none)) ∷ joined (plain off) (more (text (bytes "\u{1b}[1m")) none) ∷ []
     ≡ [] ∷ bytes "\u{1b}[1m" ∷ []
-unfolding utf8.computes characters.computes runs.computes colour.computes
+unfolding utf8.computes characters.computes points.computes widths.computes runs.computes colour.computes
 premise-needed = refl

@@ -10,6 +10,8 @@ use Rattle.checking.specs.Templates.{refusalTold, checkOf}
 use Rattle.buffer.specs.Computing as buffer
 use Rattle.utf8.specs.Computing as utf8
 use Rattle.characters.specs.Computing as characters
+use Rattle.points.specs.Computing as points
+use Rattle.widths.specs.Computing as widths
 use Rattle.runs.specs.Computing as runs
 use Rattle.letters.specs.Computing as letters
 use Rattle.words.specs.Computing as words
@@ -88,7 +90,7 @@ refusedRows =
 
 -- what an edition answers
 pub answers : Edition → List Row → List ℕ
-unfolding buffer.computes utf8.computes characters.computes runs.computes letters.computes words.computes
+unfolding buffer.computes utf8.computes characters.computes points.computes widths.computes runs.computes letters.computes words.computes
     segments.computes parts.computes braces.computes building.computes unused.computes template.computes refusalTold checkOf
 answers edition [] = []
 answers edition (r ∷ rest) = checkOf (readBy edition (r .template)) ∷ answers edition rest

@@ -11,8 +11,9 @@ use borrow.Author.Tests.{leb-true, ne-eqb}
 use Rattle.utf8.specs.Utf8.{Range, _to_, within}
 use Rattle.utf8.proofs.Ranges.{within-below, within-above}
 use Rattle.runs.specs.Runs.{letter, letterMark}
+use Rattle.points.specs.Ranges.{among}
 use Rattle.letters.specs.Alphabetic.{alphabetic}
-use Rattle.letters.specs.Letters.{among, isAlphabetic}
+use Rattle.letters.specs.Letters.{isAlphabetic}
 
 -- whether each range begins at l or above it
 abbrev beginFrom : ℕ → List Range → Bool

@@ -12,9 +12,9 @@ use Rattle.buffer.specs.Bytes.{character, onward}
 use Rattle.utf8.specs.Utf8.{within}
 use Rattle.runs.specs.Runs.{letter}
 use Rattle.letters.specs.Letters.{isAlphabetic}
-use Rattle.letters.specs.Decoding.{sizeOf, point}
+use Rattle.points.specs.Decoding.{sizeOf, point}
 use Rattle.letters.specs.Marked.{opensLetter, leftIn, letterIn, seenAs, markedOn, marked}
-use Rattle.letters.proofs.Decoded.{size-one, size-two, size-three, size-four, decoded-two, decoded-three, decoded-four}
+use Rattle.points.proofs.Decoded.{size-one, size-two, size-three, size-four, decoded-two, decoded-three, decoded-four}
 use Rattle.letters.proofs.Ascii.{ascii, beyond}
 
 -- ---- a character in front

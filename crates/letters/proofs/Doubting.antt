@@ -10,16 +10,17 @@ use lib.ListN.{length, getD, List·getD-eq-default}
 use borrow.Author.Tests.{leb-true, eq-eqb, ne-eqb}
 use Rattle.utf8.specs.Windows.{less, topOf}
 use Rattle.utf8.proofs.Greatest.{top-any}
+use Rattle.points.specs.Decoding.{point}
+use Rattle.points.specs.Ranges.{ends}
+use Rattle.points.specs.Searching.{odd}
+use Rattle.points.proofs.Halving.{up-to-next}
+use Rattle.points.proofs.Lookup.{among-odd}
+use Rattle.points.proofs.Decoded.{point-three}
 use Rattle.letters.specs.Alphabetic.{alphabetic}
-use Rattle.letters.specs.Letters.{isAlphabetic, ends}
-use Rattle.letters.specs.Decoding.{point}
+use Rattle.letters.specs.Letters.{isAlphabetic}
 use Rattle.letters.specs.Marked.{opensLetter, leftIn, letterIn, seenAs, markedOn, marked}
 use Rattle.letters.specs.Doubting.{doubtOf, doubtIn, Clear, Looked}
-use Rattle.letters.specs.Searching.{odd}
-use Rattle.letters.proofs.Order.{rising}
-use Rattle.letters.proofs.Halving.{up-to-next}
-use Rattle.letters.proofs.Lookup.{among-odd}
-use Rattle.letters.proofs.Decoded.{point-three}
+use Rattle.letters.proofs.Rising.{rising}
 
 -- ---- from U+2500 up to U+2BFF there is no letter
 

@@ -13,9 +13,9 @@ use Rattle.utf8.proofs.Ranges.{within-true}
 use Rattle.utf8.proofs.Running.{step-broken, run-broken}
 use Rattle.utf8.proofs.Following.{First, alone, opens, none-below, none-above, first-byte, opens-bounds, step-lives, step-in}
 use Rattle.runs.specs.Runs.{letter, runEnd, lettersEnd}
-use Rattle.letters.specs.Decoding.{sizeOf}
+use Rattle.points.specs.Decoding.{sizeOf}
 use Rattle.letters.specs.Marked.{leftIn, letterIn, seenAs, markedOn, marked}
-use Rattle.letters.proofs.Decoded.{size-one, size-two, size-three, size-four}
+use Rattle.points.proofs.Decoded.{size-one, size-two, size-three, size-four}
 use Rattle.letters.proofs.Ascii.{beyond}
 
 -- ---- what is awaited, and how many bytes are left

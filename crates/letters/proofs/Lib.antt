@@ -1,7 +1,4 @@
-pub mod Order
-pub mod Halving
-pub mod Lookup
-pub mod Decoded
+pub mod Rising
 pub mod Marks
 pub mod Doubting
 pub mod Ascii

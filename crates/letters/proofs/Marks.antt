@@ -9,7 +9,7 @@ use lib.Seq.{getD-drop, drop-drop}
 use borrow.Author.Tests.{le-leb, lt-leb}
 use Rattle.buffer.proofs.Parts.{drop-step, first-left}
 use Rattle.letters.specs.Letters.{isAlphabetic}
-use Rattle.letters.specs.Decoding.{sizeOf, point}
+use Rattle.points.specs.Decoding.{sizeOf, point}
 use Rattle.letters.specs.Marked.{opensLetter, leftIn, letterIn, seenAs, markedOn, marked}
 
 -- ---- lengths

@@ -8,9 +8,10 @@ use lib.ListN.{getD}
 use Rattle.buffer.specs.Bytes.{bytes}
 use Rattle.utf8.specs.Utf8.{within}
 use Rattle.runs.specs.Runs.{letterMark}
+use Rattle.points.specs.Decoding.{sizeOf, point}
+use Rattle.points.specs.Ranges.{among}
 use Rattle.letters.specs.Alphabetic.{alphabetic}
-use Rattle.letters.specs.Letters.{among, isAlphabetic}
-use Rattle.letters.specs.Decoding.{sizeOf, point}
+use Rattle.letters.specs.Letters.{isAlphabetic}
 
 -- whether t begins with a letter beyond ASCII: a character of several bytes that is a letter
 unfoldable pub opensLetter : List ℕ → Bool

@@ -1,7 +1,5 @@
 // Letters beyond ASCII: which characters are letters, as Rust's `char::is_alphabetic` decides, and a template in which they are marked. What reads names
 // then tells letters byte by byte, and no character is decoded twice.
-mod decoding;
 pub mod doubt;
 mod marking;
-mod search;
 pub mod table;

@@ -1,15 +1,16 @@
 // A template with its letters beyond ASCII marked, byte by byte.
-use super::decoding::byte_at;
-use super::decoding::point;
-use super::decoding::size_of;
-use super::search::is_alphabetic;
+use points::decoding::byte_at;
+use points::decoding::point;
+use points::decoding::size_of;
+use points::search::is_among;
 use runs::MARK;
 ghost use mathlib.Core.Path.{_≡_};
 ghost use Prim.Native.Nat.{_≤_, _<_};
 ghost use lib.ListN.{length, drop};
 ghost use Rattle.buffer.specs.Buffer.{putAt};
 ghost use Rattle.letters.specs.Alphabetic.{alphabetic};
-ghost use Rattle.letters.specs.Letters.{ends};
+ghost use Rattle.points.specs.Ranges.{ends};
+ghost use Rattle.letters.specs.Letters.{isAlphabetic};
 ghost use Rattle.letters.specs.Marked.{opensLetter, leftIn, letterIn, seenAs, marked};
 
 // Writes t to the front of `out`, each byte of a letter beyond ASCII as the mark. The table of letters is lent.
@@ -64,6 +65,14 @@ fn opens_letter(table: &[u32], t: &[u8], i: usize) -> bool
     }
     let x = point(a, byte_at(t, i + 1), byte_at(t, i + 2), byte_at(t, i + 3));
     is_alphabetic(table, x)
+}
+
+// Whether the character with the code point x is a letter.
+fn is_alphabetic(table: &[u32], x: u32) -> bool
+    requires { ⌜ now table ≡ ends alphabetic ⌝ }
+    ensures { λ r. ⌜ r ≡ isAlphabetic x ⌝ }
+{
+    is_among(table, x)
 }
 
 fn seen_as(letter: bool, b: u8) -> u8

@@ -1,7 +1,7 @@
 -- What stands before a formatted text and after it, measured by its number of bytes. Assumes nothing.
 use mathlib.Core.Path.{_≡_, refl, ap, sym, _∙_}
 use mathlib.Core.List.{List, [], _∷_, _++_, append-nil}
-use Prim.Native.Nat.{ℕ, _+_}
+use Prim.Native.Nat.{ℕ, zero, suc, _+_}
 use native.Mathlib.Nat.{add-zero}
 use native.Mathlib.Omega.{arith}
 use lib.ListN.{length, replicate, length-replicate}
@@ -17,33 +17,42 @@ use Rattle.colour.specs.Machine.{scan, resting}
 use Rattle.colour.proofs.Counts.{chars-pad}
 use Rattle.colour.proofs.Formatted.{ending-reset}
 use Rattle.colour.proofs.Prefixes.{whole-prefixIn, chars-prefixIn}
-use Rattle.colour.proofs.Wholes.{scan-reset}
+use Rattle.colour.proofs.Wholes.{Whole, scan-reset, seen-reset}
+use Rattle.scanning.specs.Resting.{isResting}
+use Rattle.measure.specs.declared.Eye.{Eye}
 use Rattle.measure.specs.declared.Measure.{Measure}
-use Rattle.measure.specs.Measures.{grown}
+use Rattle.measure.specs.Measures.{eyeAfter, behindPadding, grown, Longer}
 use Rattle.measure.proofs.Measured.{measure-eq}
+use Rattle.measure.proofs.Eyes.{eye-pad, wide-pad, eye-silent, wide-silent}
 
--- padding is measured by its length, but for the search
-pub grown-pad : (a : Measure) (z : Padding) (n : ℕ) (t : Scan) → t ≡ scan (a .scan) (replicate n (padByte z))
-    → _≡_ {A = Measure} (record { scan = t; chars = a .chars + n; len = a .len + n }) (grown a (replicate n (padByte z)))
-grown-pad a z n t e =
-    let p = replicate n (padByte z) in
-    measure-eq t (scan (a .scan) p) (a .chars + n) (a .chars + chars p) (a .len + n) (a .len + length p)
-    e (omega (arith, chars-pad z n)) (omega (arith, length-replicate {A = ℕ} n (padByte z)))
-
--- one whole sequence of n bytes, a reset or not, after what a measures
-abbrev pub Longer : Measure → ℕ → ℕ → Measure → Type 0
-Longer a n m r = (r .scan ≡ resting (a .scan .sequences + n) (a .scan .resets + m)) × ((r .chars ≡ a .chars + n) × (r .len ≡ a .len + n))
+-- padding is measured by its length, but for the search and the eye
+pub grown-pad : (a : Measure) (z : Padding) (n : ℕ) (t : Scan) (e : Eye) → (n ≡ 0 → ⊥) → t ≡ scan (a .scan) (replicate n (padByte z))
+    → e ≡ behindPadding (a .eye) (isResting (t .state) (t .held))
+    → _≡_ {A = Measure} (record { scan = t; eye = e; count = a .count + n; len = a .len + n }) (grown a (replicate n (padByte z)))
+grown-pad a z zero t e h f g = absurd (h refl)
+grown-pad a z (suc n) t e h f g =
+    let p = replicate (suc n) (padByte z) in
+    let o = a .eye in
+    measure-eq t (scan (a .scan) p) e (eyeAfter o (a .scan) p) (a .count + suc n) (grown a p .count) (a .len + suc n) (a .len + length p)
+    f
+    (g ∙ ap (λ (u : Scan). behindPadding o (isResting (u .state) (u .held))) f ∙ sym (eye-pad (o .awaited) (o .bits) z n (a .scan) (o .rule)))
+    (omega (arith, chars-pad z (suc n), wide-pad (o .awaited) (o .bits) z n (a .scan) (o .rule)))
+    (omega (arith, length-replicate {A = ℕ} (suc n) (padByte z)))
 
 -- a prefix is one
 pub grown-prefix : (a r : Measure) (s : Settings) (k : Look) (n : ℕ) → (n ≡ 0 → ⊥) → n ≡ length (prefixIn (s .colour) k) → Longer a n 0 r
     → r ≡ grown a (prefixIn (s .colour) k)
 grown-prefix a r s k n g e h =
     let p = prefixIn (s .colour) k in
-    let z : p ≡ [] → ⊥ = λ q. g (e ∙ ap length q) in
+    let o = a .eye in
+    let w : Whole p = whole-prefixIn (s .colour) k (λ q. g (e ∙ ap length q)) in
     let t : resting (a .scan .sequences + n) (a .scan .resets + 0) ≡ resting (a .scan .sequences + length p) (a .scan .resets) =
     λ i. resting (a .scan .sequences + e i) (add-zero (a .scan .resets) i) in
-    measure-eq (r .scan) (scan (a .scan) p) (r .chars) (a .chars + chars p) (r .len) (a .len + length p)
-    (h .0 ∙ t ∙ sym (whole-prefixIn (s .colour) k z (a .scan))) (omega (arith, h .1, chars-prefixIn (s .colour) k)) (omega (arith, h .1))
+    measure-eq (r .scan) (scan (a .scan) p) (r .eye) (eyeAfter o (a .scan) p) (r .count) (grown a p .count) (r .len) (a .len + length p)
+    (h .0 ∙ t ∙ sym (w .scanned (a .scan)))
+    (h .1 .0 ∙ sym (eye-silent (o .awaited) (o .bits) (a .scan) p (w .silent (a .scan)) (o .rule)))
+    (omega (arith, h .1 .1 .0, e, chars-prefixIn (s .colour) k, wide-silent (o .awaited) (o .bits) (a .scan) p (w .silent (a .scan)) (o .rule)))
+    (omega (arith, h .1 .1 .1, e))
 
 chars-reset : chars reset ≡ 4
 unfolding begins within
@@ -54,8 +63,12 @@ pub grown-ending : (a r : Measure) (s : Settings) (k : Look) (n : ℕ) → (n �
     → r ≡ grown a (ending (prefixIn (s .colour) k))
 grown-ending a r s k n g e h =
     let p = prefixIn (s .colour) k in
-    measure-eq (r .scan) (scan (a .scan) reset) (r .chars) (a .chars + chars reset) (r .len) (a .len + 4)
-    (h .0 ∙ sym (scan-reset (a .scan))) (omega (arith, h .1, chars-reset)) (omega (arith, h .1))
+    let o = a .eye in
+    measure-eq (r .scan) (scan (a .scan) reset) (r .eye) (eyeAfter o (a .scan) reset) (r .count) (grown a reset .count) (r .len) (a .len + 4)
+    (h .0 ∙ sym (scan-reset (a .scan)))
+    (h .1 .0 ∙ sym (eye-silent (o .awaited) (o .bits) (a .scan) reset (seen-reset (a .scan)) (o .rule)))
+    (omega (arith, h .1 .1 .0, chars-reset, wide-silent (o .awaited) (o .bits) (a .scan) reset (seen-reset (a .scan)) (o .rule)))
+    (omega (arith, h .1 .1 .1))
     ∙ ap (grown a) (sym (ending-reset p (λ q. g (e ∙ ap length q))))
 
 empty : (p : List ℕ) → length p ≡ 0 → p ≡ []

@@ -1,3 +1,6 @@
-pub mod Framed
 pub mod Measured
+pub mod Eyes
+pub mod Shut
+pub mod Adding
+pub mod Framed
 pub mod Walked

@@ -23,7 +23,7 @@ pub fn padding_in(s: Settings, f: Format, x: Measure, n: usize) -> usize
     ensures { λ r. ⌜ r ≡ paddingIn s f x n ⌝ }
 {
     let t = x.scan;
-    let due = less(f.width, less(x.chars, t.sequences));
+    let due = less(f.width, less(x.count, t.sequences));
     less(due, against_padding(s.straight, n))
 }
 

@@ -1,6 +1,7 @@
 // What stands before a formatted text and after it, measured.
 use super::Measure;
 use super::padding::pad;
+use super::seeing::eye_let_go;
 use colour::Format;
 use colour::Scan;
 use colour::Settings;
@@ -12,8 +13,7 @@ ghost use mathlib.Core.List.{_++_};
 ghost use Prim.Native.Nat.{_+_, _<_, _≤_, _^_};
 ghost use lib.ListN.{replicate};
 ghost use Rattle.colour.specs.Formatting.{prefixIn, padByte, ending};
-ghost use Rattle.colour.specs.Machine.{resting};
-ghost use Rattle.measure.specs.Measures.{grown, more, Small};
+ghost use Rattle.measure.specs.Measures.{grown, more, Longer, Small};
 
 // The measure of what a measures, then the prefix and l bytes of padding. Only without a prefix can the padding go on with a
 // sequence that has begun.
@@ -54,6 +54,7 @@ fn longer(a: Measure, n: usize) -> Measure
 {
     let t = a.scan;
     let q = t.state;
+    let e = a.eye;
     Measure {
         scan: Scan {
             state: q,
@@ -61,7 +62,8 @@ fn longer(a: Measure, n: usize) -> Measure
             sequences: t.sequences + n,
             resets: t.resets,
         },
-        chars: a.chars + n,
+        eye: e,
+        count: a.count + n,
         len: a.len + n,
     }
 }
@@ -70,7 +72,7 @@ fn longer(a: Measure, n: usize) -> Measure
 // none is open after it.
 fn sequence(a: Measure, n: usize, resets: usize) -> Measure
     requires { ⌜ (Small a) × ((a .len + n < 2 ^ 58) × (resets ≤ 1)) ⌝ }
-    ensures { λ r. ⌜ (r .scan ≡ resting (a .scan .sequences + n) (a .scan .resets + resets)) × ((r .chars ≡ a .chars + n) × (r .len ≡ a .len + n)) ⌝ }
+    ensures { λ r. ⌜ Longer a n resets r ⌝ }
 {
     let t = a.scan;
     Measure {
@@ -80,7 +82,8 @@ fn sequence(a: Measure, n: usize, resets: usize) -> Measure
             sequences: t.sequences + n,
             resets: t.resets + resets,
         },
-        chars: a.chars + n,
+        eye: eye_let_go(a.eye, t.held),
+        count: a.count + n,
         len: a.len + n,
     }
 }

@@ -1,21 +1,25 @@
 // A measure, and a text more.
+use super::Eye;
 use super::Measure;
+use super::seeing::see;
+use characters::Counted;
 use characters::count_chars;
 use colour::Scan;
 use colour::State;
 use scanning::skipping::rests;
 use scanning::skipping::scan_text;
+use widths::Rule;
 ghost use mathlib.Core.Path.{_≡_};
 ghost use Prim.Native.Nat.{_+_, _<_, _^_};
 ghost use lib.ListN.{length};
-ghost use Rattle.characters.specs.Characters.{has};
+ghost use Rattle.characters.specs.Characters.{chars, has};
 ghost use Rattle.colour.specs.Machine.{scan};
 ghost use Rattle.colour.specs.Sequences.{esc};
 ghost use Rattle.measure.specs.Measures.{nothing, grown, Small};
 
-// Nothing, measured.
-pub fn none() -> Measure
-    ensures { λ r. ⌜ r ≡ nothing ⌝ }
+// Nothing, measured by a rule.
+pub fn none(rule: Rule) -> Measure
+    ensures { λ r. ⌜ r ≡ nothing rule ⌝ }
 {
     Measure {
         scan: Scan {
@@ -24,7 +28,12 @@ pub fn none() -> Measure
             sequences: 0,
             resets: 0,
         },
-        chars: 0,
+        eye: Eye {
+            rule,
+            awaited: 0,
+            bits: 0,
+        },
+        count: 0,
         len: 0,
     }
 }
@@ -37,9 +46,38 @@ pub fn add(a: Measure, s: &[u8]) -> Measure
     let t = a.scan;
     let c = count_chars(s, 27);
     let u = scan_found(t, s, c.met);
+    let e = a.eye;
+    let rule = e.rule;
+    match rule {
+        Rule::Characters => Measure {
+            scan: u,
+            eye: e,
+            count: a.count + c.chars,
+            len: a.len + s.len(),
+        },
+        Rule::Places => add_places(a, s, c, u),
+    }
+}
+
+// The same by the places rule, where s was counted and u is the search after it.
+fn add_places(a: Measure, s: &[u8], c: Counted, u: Scan) -> Measure
+    requires { ⌜ (Small a) × (a .len + length (now s) < 2 ^ 58) ⌝ }
+    requires { ⌜ (a .eye .rule ≡ Rule.Places) × (u ≡ scan (a .scan) (now s)) ⌝ }
+    requires { ⌜ (c .chars ≡ chars (now s)) × (c .met ≡ has esc (now s)) ⌝ }
+    ensures { λ r. ⌜ r ≡ grown a (now (s .entry)) ⌝ }
+{
+    let t = a.scan;
+    let e = a.eye;
+    let w = see(t, e.awaited, e.bits, s, c);
+    let p = w.pending;
     Measure {
         scan: u,
-        chars: a.chars + c.chars,
+        eye: Eye {
+            rule: Rule::Places,
+            awaited: p.awaited,
+            bits: p.bits,
+        },
+        count: a.count + c.chars + w.wide,
         len: a.len + s.len(),
     }
 }

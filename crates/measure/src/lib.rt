@@ -1,14 +1,25 @@
 // Measuring: what a text adds to a line, without writing it.
 use colour::Scan;
+use widths::Rule;
 
 pub mod additions;
 pub mod framing;
 pub mod growing;
 pub mod padding;
+mod seeing;
 
-// A text as measured: the search for colour sequences after it, its characters, its bytes.
+// By which rule a text is counted and, by the places rule, what is seen of a character that has begun: how many of its bytes are still to
+// come, and the bits that those before have said. It stays small, as it is handed on with every measure.
+pub struct Eye {
+    pub rule: Rule,
+    pub awaited: u8,
+    pub bits: u16,
+}
+
+// A text as measured: the search for colour sequences after it, the eye after it, what it counts, its bytes.
 pub struct Measure {
     pub scan: Scan,
-    pub chars: usize,
+    pub eye: Eye,
+    pub count: usize,
     pub len: usize,
 }

@@ -1,8 +1,10 @@
 // Padding: its byte, where it stands, and what it adds to a measure.
+use super::Eye;
 use super::Measure;
 use colour::Scan;
 use scanning::skipping::rests;
 use scanning::step;
+use widths::Rule;
 use words::Alignment;
 use words::Padding;
 ghost use mathlib.Core.Path.{_≡_};
@@ -10,7 +12,8 @@ ghost use Prim.Native.Nat.{_+_, _<_, _≤_, _^_};
 ghost use lib.ListN.{replicate};
 ghost use Rattle.colour.specs.Formatting.{before, padByte};
 ghost use Rattle.colour.specs.Machine.{scan};
-ghost use Rattle.measure.specs.Measures.{grown, Small};
+ghost use Rattle.scanning.specs.Resting.{isResting};
+ghost use Rattle.measure.specs.Measures.{grown, behindPadding, Small};
 
 pub fn pad_byte(z: Padding) -> u8
     ensures { λ r. ⌜ r ≡ padByte z ⌝ }
@@ -37,13 +40,42 @@ pub(crate) fn pad(a: Measure, z: Padding, n: usize) -> Measure
     requires { ⌜ (Small a) × (a .len + n < 2 ^ 58) ⌝ }
     ensures { λ r. ⌜ r ≡ grown a (replicate n (padByte z)) ⌝ }
 {
+    if n == 0 {
+        return a;
+    }
     let t = a.scan;
     let u = scan_padding(t, z, n);
     Measure {
         scan: u,
-        chars: a.chars + n,
+        eye: eye_behind(a.eye, u),
+        count: a.count + n,
         len: a.len + n,
     }
+}
+
+// The eye behind padding after which the search is u: a byte of it that is seen ends what has begun, and one that is not goes on with a sequence.
+fn eye_behind(e: Eye, u: Scan) -> Eye
+    ensures { λ r. ⌜ r ≡ behindPadding e (isResting (u .state) (u .held)) ⌝ }
+{
+    let rule = e.rule;
+    match rule {
+        Rule::Characters => e,
+        Rule::Places => places_behind(e, rests(u)),
+    }
+}
+
+fn places_behind(e: Eye, rests: bool) -> Eye
+    requires { ⌜ e .rule ≡ Rule.Places ⌝ }
+    ensures { λ r. ⌜ r ≡ behindPadding e rests ⌝ }
+{
+    if rests {
+        return Eye {
+            rule: Rule::Places,
+            awaited: 0,
+            bits: 0,
+        };
+    }
+    e
 }
 
 // A `0` may go on with a sequence that has begun: only where none has is the padding passed over.

@@ -19,7 +19,7 @@ ghost use Rattle.pralakuon_c.specs.Version.{version};
 // The same three numbers stand in include/pralakuon.h and in host/Cargo.toml.
 const MAJOR: u64 = 0;
 
-const MINOR: u64 = 5;
+const MINOR: u64 = 6;
 
 const PATCH: u64 = 0;
 

@@ -122,7 +122,7 @@ module _ (s : Settings) (t d numbers : List ℕ) where
 
   -- else all come from the measure of the text and the length of the prefix
   module _ (x : LogSegment) (f : Format) (m : Measure) (n p q e : ℕ) (b : isBare (sourceBy numbers) x ≡ false) (fe : f ≡ formatOf (levelBy numbers) x)
-      (me : m ≡ grown nothing (rawText s t (recordBy numbers d) x)) (ne : n ≡ insertedIn s f m) (pe : p ≡ paddingIn s f m n) (qe : q ≡ length (opening s f))
+      (me : m ≡ grown (nothing (s .rule)) (rawText s t (recordBy numbers d) x)) (ne : n ≡ insertedIn s f m) (pe : p ≡ paddingIn s f m n) (qe : q ≡ length (opening s f))
       (ee : e ≡ cond (eqb q 0) 0 (q + 4)) where
     inserted-is : n ≡ inserted (opening s f) (rawText s t (recordBy numbers d) x)
     inserted-is = ne ∙ ap (insertedIn s f) me ∙ inserted-measured s f (rawText s t (recordBy numbers d) x)
@@ -130,7 +130,7 @@ module _ (s : Settings) (t d numbers : List ℕ) where
     padded-is : p ≡ padded s f (rawText s t (recordBy numbers d) x)
     padded-is =
         let y = rawText s t (recordBy numbers d) x in
-        pe ∙ ap (λ (k : Measure). paddingIn s f k n) me ∙ ap (paddingIn s f (grown nothing y)) inserted-is ∙ padding-measured s f y
+        pe ∙ ap (λ (k : Measure). paddingIn s f k n) me ∙ ap (paddingIn s f (grown (nothing (s .rule)) y)) inserted-is ∙ padding-measured s f y
 
     pub row-counted : m .len + (n + (p + e)) ≡ length (segmentText s t (recordBy numbers d) x)
     row-counted =

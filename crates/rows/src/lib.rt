@@ -24,6 +24,7 @@ use segment::format_of;
 use segment::frame_at;
 use segment::is_bare;
 use segments::Kind;
+use widths::Rule;
 ghost use mathlib.Core.Path.{_≡_};
 ghost use Prim.Native.Nat.{_+_, _*_, _<_, _≤_, _^_};
 ghost use lib.ListN.{length};
@@ -231,7 +232,8 @@ fn row_for(
             return bare_row(raw_len(cells, table, t, d, numbers, s, i));
         }
     }
-    let x = raw_of(cells, links, table, t, d, numbers, s, 8, i, none());
+    let rule: Rule = s.rule;
+    let x = raw_of(cells, links, table, t, d, numbers, s, 8, i, none(rule));
     let n = inserted_in(s, f, x);
     let z = padding_in(s, f, x, n);
     Row {

@@ -14,7 +14,7 @@ ghost use Rattle.colour.specs.Machine.{actAmong, actOf, moved};
 pub mod skipping;
 
 // What the byte b does in the state q.
-pub(crate) fn act_of(q: State, b: u8) -> Act
+pub fn act_of(q: State, b: u8) -> Act
     ensures { λ r. ⌜ r ≡ actOf q b ⌝ }
 {
     if b == 27 {

@@ -1,6 +1,6 @@
 -- Scaffolding, for proofs alone: what the definitions of this layer compute by, in one name: `unfolding computes` opens them all. Assumes nothing.
-use Rattle.settings.specs.Bits.{isKnown, settingsOf, editionOf, formOf}
+use Rattle.settings.specs.Bits.{isKnown, ruleOf, settingsOf, editionOf, formOf}
 
 unfoldable pub computes : Unit {0}
-unfolding isKnown settingsOf editionOf formOf
+unfolding isKnown ruleOf settingsOf editionOf formOf
 computes = tt

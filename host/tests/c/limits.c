@@ -153,7 +153,22 @@ static void settings(void)
                   "\033[1m[\033[31mERROR\033[0m\033[1m]  \033[0m|"));
     CHECK(is_line(line_of(template_, PRALAKUON_STRICT, &record, out), out, "[ERROR]  |"));
     CHECK(is_line(line_of(template_, PRALAKUON_HEADS, &record, out), out, "[ERROR]  |"));
-    CHECK(line_of(template_, 2 * PRALAKUON_HEADS, &record, out) == PRALAKUON_NOT_A_SHEET);
+    CHECK(is_line(line_of(template_, PRALAKUON_PLACES, &record, out), out, "[ERROR]  |"));
+    CHECK(line_of(template_, 2 * PRALAKUON_PLACES, &record, out) == PRALAKUON_NOT_A_SHEET);
+}
+
+/* A wide character takes two places: one more, and so one of padding less, than without the bit. */
+static void places(void)
+{
+    static uint8_t out[PRALAKUON_RECORD_ROOM];
+    struct pralakuon_record record;
+
+    memset(&record, 0, sizeof record);
+    record.level = PRALAKUON_LEVEL_INFO;
+    record.message = pralakuon_text_of("\345\243\201B3"); /* U+58C1, a wall */
+    CHECK(is_line(line_of("{s:6}|", PRALAKUON_PLAIN, &record, out), out, "\345\243\201B3   |"));
+    CHECK(is_line(line_of("{s:6}|", PRALAKUON_PLACES, &record, out), out, "\345\243\201B3  |"));
+    CHECK(is_line(line_of("{s:6}|", PRALAKUON_PLACES | PRALAKUON_HEADS, &record, out), out, "\345\243\201B3  |"));
 }
 
 /* A record's serial: shown, absent, empty, at its limit; by settings that know no head it is refused. */
@@ -208,7 +223,7 @@ static void strict(void)
     for (settings = 0; settings < 256; settings++) {
         const uint8_t byte = (uint8_t)settings;
         const int strictly = (settings & PRALAKUON_STRICT) != 0;
-        const uint64_t refusal = settings >= 16 ? (uint64_t)PRALAKUON_NOT_A_SHEET : strictly ? dropped : 0;
+        const uint64_t refusal = settings >= 32 ? (uint64_t)PRALAKUON_NOT_A_SHEET : strictly ? dropped : 0;
 
         CHECK(check_by(template_, byte) == refusal);
         CHECK(timestamp_by(template_, byte) == refusal);
@@ -304,6 +319,7 @@ int main(void)
     levels();
     sources();
     settings();
+    places();
     heads();
     strict();
     sessions();

@@ -212,9 +212,9 @@ static void begun(struct pralakuon_text template_, size_t room, size_t size)
     uint8_t *out = painted(room, PAINT);
     struct pralakuon_sheet sheet;
 
-    CHECK(pralakuon_sheet_begin(&sheet, 15, template_, out, room) == PRALAKUON_SHEET_WRITTEN);
-    CHECK(sheet.bytes == out && sheet.size == size && sheet.records == 0 && sheet.settings == 15);
-    CHECK(memcmp(out, "\1\0", 2) == 0 && out[6] == 15);
+    CHECK(pralakuon_sheet_begin(&sheet, 31, template_, out, room) == PRALAKUON_SHEET_WRITTEN);
+    CHECK(sheet.bytes == out && sheet.size == size && sheet.records == 0 && sheet.settings == 31);
+    CHECK(memcmp(out, "\1\0", 2) == 0 && out[6] == 31);
     CHECK(out[2] + 256u * out[3] == size - 6 && out[4] == 0 && out[5] == 0);
     CHECK(all_are(out + 7, size - 7, 'x') && all_are(out + size, room - size, PAINT));
     free(out);
@@ -238,8 +238,8 @@ static void beginnings(void)
     not_begun(PRALAKUON_SHEET_TOO_SMALL, 0, of_length(65530), SHEET);
     not_begun(PRALAKUON_SHEET_TOO_SMALL, 0, of_length(65530), SHEET + 9);
     not_begun(PRALAKUON_SHEET_TOO_SMALL, 0, of_length(SIZE_MAX), SHEET);
-    not_begun(PRALAKUON_SHEET_UNKNOWN_SETTINGS, 16, of_length(0), 7);
-    not_begun(PRALAKUON_SHEET_UNKNOWN_SETTINGS, 128 | 15, of_length(0), 7);
+    not_begun(PRALAKUON_SHEET_UNKNOWN_SETTINGS, 32, of_length(0), 7);
+    not_begun(PRALAKUON_SHEET_UNKNOWN_SETTINGS, 128 | 31, of_length(0), 7);
 }
 
 static int same_sheet(const struct pralakuon_sheet *a, const struct pralakuon_sheet *b)

@@ -143,6 +143,8 @@ int main(void)
         .message = pralakuon_text_of("hello"),
         .head = pralakuon_text_of("H-07"),
     };
+    /* A wall's name in Japanese: two wide characters, a space, `B3`. */
+    const struct pralakuon_record named = {.level = PRALAKUON_LEVEL_INFO, .message = pralakuon_text_of("北壁 B3")};
 
     show_version();
     show_template("[{L}] {s}", PRALAKUON_PLAIN);
@@ -158,6 +160,8 @@ int main(void)
     show_line("{d:>6} {s}", PRALAKUON_HEADS, &headed, 12);
     show_line("{d:>6} {s}", PRALAKUON_HEADS, &records[0], 12);
     show_line("{d:>6} {s}", PRALAKUON_PLAIN, &headed, 12); /* these settings know no head */
+    show_line("{s:9}|", PRALAKUON_PLAIN, &named, 14);
+    show_line("{s:9}|", PRALAKUON_PLACES, &named, 14); /* its five characters take seven places */
     show_visible("\033[1m[\033[31mERROR\033[0m\033[1m]  \033[0m|hello");
     show_sheet(records, 3, 512);
     show_sheet(records, 3, 81);

@@ -3,21 +3,23 @@
 use super::calls::{self, Owed};
 use super::heads::{Judged, Way};
 use super::listed::Listed;
+use super::places::Placed;
 use super::ruled::{Ruled, Strictly};
 use crate::ruling::{self, line::without_sequences, Names};
-use crate::sheet::{write_bodies, Layout, Record, Sheet, COLOUR, STRAIGHT, STRICT};
+use crate::sheet::{write_bodies, Layout, Record, Sheet, COLOUR, PLACES, STRAIGHT, STRICT};
 use crate::strict;
 use crate::stub::format;
 use crate::tree::dump;
 use std::fmt;
 
 pub enum Case {
-    /// A template and a record in either layout, in every setting, by itself and as a sheet; `unknown` is a settings byte
-    /// with a bit that is not known.
+    /// A template and a record in either layout, by itself and as a sheet, in every setting, but in the places rule only
+    /// where `places` says so; `unknown` is a settings byte with a bit that is not known.
     Line {
         template: Vec<u8>,
         record: Vec<u8>,
         unknown: u8,
+        places: bool,
     },
     Sheet(Vec<u8>),
     /// Style, location, timestamp, host.
@@ -37,6 +39,8 @@ pub struct Seen {
     pub ways: Vec<(Way, Vec<u8>)>,
     /// Lines by such templates.
     pub heads: Vec<Judged>,
+    /// Lines in the places rule.
+    pub places: Vec<Placed>,
 }
 
 impl Seen {
@@ -50,13 +54,18 @@ impl Case {
     /// The half of the comparison that the crate can answer under this colour, which must be the one that is set.
     pub fn compare(&self, colour: bool, more: usize, seen: &mut Seen) -> Result<(), String> {
         match self {
-            Case::Line { template, record, unknown } => {
+            Case::Line { template, record, unknown, places } => {
                 let ruled = Ruled::new(template, seen)?;
                 if !colour {
                     seen.template(template, &ruled);
                     compare_unknown(*unknown, template, record, more)?;
                 }
-                compare_line(&ruled, template, record, colour, more, seen)
+                let rules = if *places { &[0, PLACES][..] } else { &[0] };
+                for rule in rules {
+                    let chosen = rule | if colour { COLOUR } else { 0 };
+                    compare_line(&ruled, template, record, chosen, more, seen)?;
+                }
+                Ok(())
             }
             Case::Sheet(bytes) => {
                 let sheet = ruling::sheet(bytes);
@@ -85,21 +94,21 @@ fn compare_unknown(settings: u8, template: &[u8], record: &[u8], more: usize) ->
     calls::session(&sheet_of(settings, template, record), &owed, more)
 }
 
-/// The bytes of a record are read in one layout and in the other: what is right in one is of a wrong size in the other.
+/// In all settings with this colour and this rule. The bytes of a record are read in one layout and in the other: what is
+/// right in one is of a wrong size in the other.
 fn compare_line(
     ruled: &Ruled,
     template: &[u8],
     bytes: &[u8],
-    colour: bool,
+    chosen: u8,
     more: usize,
     seen: &mut Seen,
 ) -> Result<(), String> {
     for layout in Layout::BOTH {
         let record = Record::read(bytes, layout);
-        let lines = record.map(|record| ruled.owed(&record, layout, colour, seen)).transpose()?;
-        let colour = if colour { COLOUR } else { 0 };
+        let lines = record.map(|record| ruled.owed(&record, layout, chosen, seen)).transpose()?;
         for others in [0, STRAIGHT, STRICT, STRICT | STRAIGHT] {
-            let settings = colour | others | layout.bit();
+            let settings = chosen | others | layout.bit();
             calls::check(template, settings, ruled.names_timestamp(settings))?;
             let owed = match (&lines, ruled.refusal(settings)) {
                 (None, _) => Owed::Refused(15),
@@ -109,7 +118,7 @@ fn compare_line(
             compare_owed(ruled, template, settings, bytes, &owed, more)?;
             seen.answers.push(owed.number());
             match owed {
-                Owed::Line(line) if colour != 0 && settings & STRICT == 0 => compare_visible(&line, more)?,
+                Owed::Line(line) if settings & (COLOUR | STRICT) == COLOUR => compare_visible(&line, more)?,
                 _ => {}
             }
         }
@@ -165,7 +174,7 @@ fn session(sheet: Option<&Sheet>, seen: &mut Seen) -> Result<Owed, String> {
     }
     let mut lines = Vec::new();
     for record in &sheet.records {
-        let [crates, straight] = ruled.owed(record, sheet.layout(), sheet.colour(), seen)?;
+        let [crates, straight] = ruled.owed(record, sheet.layout(), sheet.settings & (COLOUR | PLACES), seen)?;
         let owed = in_the_program(if sheet.settings & STRAIGHT != 0 { straight } else { crates });
         seen.answers.push(owed.number());
         lines.extend(printed(&owed));

@@ -4,6 +4,7 @@ use super::case::Seen;
 use super::heads::{Judged, Way};
 use super::listed;
 use super::make::KINDS;
+use super::places::Placed;
 use super::ruled::Strictly;
 use std::collections::{BTreeMap, BTreeSet};
 
@@ -25,6 +26,8 @@ pub struct Found {
     ways: BTreeMap<Way, (u64, Least)>,
     /// Lines by such templates, by who judges them.
     heads: [u64; Judged::NAMES.len()],
+    /// Lines in the places rule, by what it makes of them.
+    places: [u64; Placed::NAMES.len()],
     parted: BTreeSet<u64>,
     texts: BTreeMap<u64, String>,
 }
@@ -40,6 +43,7 @@ impl Found {
         seen.listed.iter().for_each(|listed| self.listed[*listed as usize] += 1);
         seen.ways.iter().for_each(|(way, template)| self.count_way(*way, 1, (template.len(), template.clone())));
         seen.heads.iter().for_each(|judged| self.heads[*judged as usize] += 1);
+        seen.places.iter().for_each(|placed| self.places[*placed as usize] += 1);
     }
 
     fn count_way(&mut self, way: Way, count: u64, template: Least) {
@@ -64,6 +68,7 @@ impl Found {
         sum(&mut self.strictly, &other.strictly);
         sum(&mut self.listed, &other.listed);
         sum(&mut self.heads, &other.heads);
+        sum(&mut self.places, &other.places);
         for (way, (count, least)) in other.ways {
             self.count_way(way, count, least);
         }
@@ -88,6 +93,7 @@ impl Found {
             println!("listed difference: {way} {count}, such as `{}`", template.escape_ascii());
         }
         print_counts("line with d as a name", &Judged::NAMES.map(str::to_string), &self.heads);
+        print_counts("line in the places rule", &Placed::NAMES.map(str::to_string), &self.places);
         println!("{count} cases, {} differences not listed", self.parted.len());
         self.parted.is_empty()
     }

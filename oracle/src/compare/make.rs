@@ -7,6 +7,7 @@ mod edges;
 mod heads;
 mod letters;
 mod paths;
+mod places;
 mod records;
 mod sheets;
 mod short;
@@ -17,9 +18,9 @@ mod tokens;
 use super::case::Case;
 use crate::sample::cases;
 use crate::sample::random::Rng;
-use crate::sheet::{Record, Sheet};
+use crate::sheet::{Record, Sheet, UNKNOWN as UNKNOWN_LEAST};
 
-pub const KINDS: [&str; 10] = [
+pub const KINDS: [&str; 11] = [
     "short templates",
     "long templates",
     "records",
@@ -30,19 +31,23 @@ pub const KINDS: [&str; 10] = [
     "letters",
     "strict",
     "heads",
+    "places",
 ];
+
+/// The last of them.
+const PLACES: usize = 10;
 
 /// Places in `KINDS`. Short templates are cheap, and so many turns show all of up to five tokens in ten million cases.
 const TURNS: [usize; 64] = [
-    0, 1, 0, 2, 0, 3, 0, 0, 8, 0, 2, 0, 4, 0, 0, 7, 0, 9, 0, 0, 1, 0, 7, 0, 3, 0, 0, 9, 0, 2, 5, 0, //
-    0, 1, 0, 2, 0, 3, 0, 0, 8, 0, 2, 0, 4, 0, 0, 7, 0, 8, 0, 0, 1, 0, 9, 0, 3, 0, 0, 1, 0, 2, 6, 0,
+    0, 1, 0, 2, 0, 3, 0, 0, 8, 0, 2, 0, 4, 0, 0, 7, 0, 9, 0, 0, 10, 0, 7, 0, 3, 0, 0, 9, 0, 2, 5, 0, //
+    0, 1, 0, 2, 0, 3, 0, 0, 8, 0, 10, 0, 4, 0, 0, 7, 0, 8, 0, 0, 1, 0, 9, 0, 10, 0, 0, 1, 0, 2, 6, 0,
 ];
 
 /// Settings bytes with a bit that is not known.
-const UNKNOWN: &[&u8] = &[&16, &17, &20, &24, &31, &32, &40, &64, &128, &129, &131, &136, &143, &248, &252, &255];
+const UNKNOWN: &[&u8] = &[&32, &33, &36, &40, &48, &63, &64, &80, &96, &128, &129, &131, &144, &159, &248, &255];
 
-/// The least of them.
-const UNKNOWN_LEAST: u8 = 16;
+/// The places rule is asked for in one case of so many.
+const PLACES_ONE_IN: u64 = 5;
 
 /// Widths beyond a block of 128 bytes, in which characters are counted.
 const WIDE: &[&str] = &[
@@ -61,7 +66,7 @@ pub fn path_count() -> u64 {
 
 pub fn path_case(index: u64) -> (usize, Case) {
     let record = heads::in_turn(index / paths::TEMPLATES.len() as u64, paths::record(index));
-    (2, systematic(paths::template(index), record))
+    (2, systematic(index, paths::template(index), record))
 }
 
 /// How many cases there are of every four bytes at the edges of UTF-8, and each of them.
@@ -71,7 +76,7 @@ pub fn byte_count() -> u64 {
 
 pub fn byte_case(index: u64) -> (usize, Case) {
     let (template, record) = bytes::case(index);
-    (2, systematic(template, record))
+    (2, systematic(index, template, record))
 }
 
 /// How many cases there are of every character, and each of them.
@@ -81,7 +86,7 @@ pub fn letter_count() -> u64 {
 
 pub fn letter_case(index: u64) -> (usize, Case) {
     let record = heads::in_turn(index / letters::PLACES.len() as u64, letters::record());
-    (7, systematic(&letters::nth_template(index), record))
+    (7, systematic(index, &letters::nth_template(index), record))
 }
 
 /// How many cases there are of templates that leave something unused or nearly do, and each of them.
@@ -90,7 +95,7 @@ pub fn strict_count() -> u64 {
 }
 
 pub fn strict_case(index: u64) -> (usize, Case) {
-    (8, systematic(&strict::TEMPLATES.nth(index), short::record(index)))
+    (8, systematic(index, &strict::TEMPLATES.nth(index), short::record(index)))
 }
 
 /// How many cases there are of templates in which `d` is tried as a name or nearly is, and each of them.
@@ -99,11 +104,37 @@ pub fn head_count() -> u64 {
 }
 
 pub fn head_case(index: u64) -> (usize, Case) {
-    (9, systematic(&heads::TEMPLATES.nth(index), short::record(index)))
+    (9, systematic(index, &heads::TEMPLATES.nth(index), short::record(index)))
 }
 
-fn systematic(template: &str, record: Vec<u8>) -> Case {
-    Case::Line { template: template.into(), record, unknown: UNKNOWN_LEAST }
+/// How many cases there are of every character in a padded message, and each of them.
+pub fn wide_count() -> u64 {
+    letters::CHARACTERS
+}
+
+pub fn wide_case(index: u64) -> (usize, Case) {
+    let record = heads::in_turn(index, places::saying(letters::nth_character(index)));
+    let template = places::TEMPLATE.into();
+    (PLACES, Case::Line { template, record, unknown: UNKNOWN_LEAST, places: true })
+}
+
+/// A case of chance in which padding meets wide characters.
+pub fn places_case(seed: u64, index: u64) -> (usize, Case) {
+    (PLACES, places::case(&mut rng(seed, index)))
+}
+
+fn systematic(index: u64, template: &str, record: Vec<u8>) -> Case {
+    Case::Line { template: template.into(), record, unknown: UNKNOWN_LEAST, places: is_in_places(index) }
+}
+
+/// Each time one place further on, so that none of the turns in which cases are made keeps step with it.
+fn is_in_places(index: u64) -> bool {
+    (index + index / PLACES_ONE_IN) % PLACES_ONE_IN == 0
+}
+
+/// Chance of its own for each case.
+fn rng(seed: u64, index: u64) -> Rng {
+    Rng(seed ^ index.wrapping_mul(0xd134_2543_de82_ef95))
 }
 
 pub struct Maker {
@@ -122,8 +153,8 @@ impl Maker {
         let kind = TURNS[turn];
         let of_kind = |turns: &[usize]| turns.iter().filter(|other| **other == kind).count() as u64;
         let nth = index / TURNS.len() as u64 * of_kind(&TURNS) + of_kind(&TURNS[..turn]);
-        let mut rng = Rng(self.seed ^ index.wrapping_mul(0xd134_2543_de82_ef95));
-        let case = match kind {
+        let mut rng = rng(self.seed, index);
+        let mut case = match kind {
             0 => line(&mut rng, short::template(self.seed, nth), short::record(nth)),
             1 => long_template(&mut rng),
             2 => record(&mut rng),
@@ -133,8 +164,12 @@ impl Maker {
             6 => Case::Text(texts::text(&mut rng)),
             7 => with_letters(&mut rng),
             8 => strictly(&mut rng),
-            _ => with_heads(&mut rng),
+            9 => with_heads(&mut rng),
+            _ => places::case(&mut rng),
         };
+        if let Case::Line { places, .. } = &mut case {
+            *places |= is_in_places(index);
+        }
         (kind, case)
     }
 
@@ -157,7 +192,7 @@ impl Maker {
 }
 
 fn line(rng: &mut Rng, template: Vec<u8>, record: Vec<u8>) -> Case {
-    Case::Line { template, record, unknown: *rng.pick(UNKNOWN) }
+    Case::Line { template, record, unknown: *rng.pick(UNKNOWN), places: false }
 }
 
 /// Of every shape, in either layout.

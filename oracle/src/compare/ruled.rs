@@ -5,12 +5,13 @@ use super::calls::Owed;
 use super::case::Seen;
 use super::heads::{self, Judged, Way};
 use super::listed::{self, Listed};
+use super::places::{placed, Asked};
 use crate::head::{self, StandIn};
 use crate::judge::{self, Shown};
 use crate::kelvin;
 use crate::ruling::line::{without_sequences, Line};
 use crate::ruling::{self, Names, Reading};
-use crate::sheet::{Layout, Record, COLOUR, STRAIGHT, STRICT};
+use crate::sheet::{Layout, Record, PLACES, STRAIGHT, STRICT};
 use crate::strict;
 use crate::stub::format::{Refusal, Template};
 use crate::tree::{dump, names, Kind, Segment, Specifier};
@@ -42,7 +43,7 @@ pub enum Judge {
     /// The template gives none.
     Nobody,
     /// The crate, by its reading of the template.
-    Crate(Template),
+    Crate(Asked),
     /// The crate, by the template with another letter in place of the Kelvin sign.
     Other(Box<Ruled>),
     /// The crate, by the template with another name in place of `d`.
@@ -104,8 +105,9 @@ impl Ruled {
     }
 
     /// What is owed for a record in the crate's mode and in straight mode, in the first edition; in the strict one it is the
-    /// same, or the template's refusal. `colour` must be what `set_colour` set last.
-    pub fn owed(&self, record: &Record, layout: Layout, colour: bool, seen: &mut Seen) -> Result<[Owed; 2], String> {
+    /// same, or the template's refusal. Of the settings colour and rule are looked at; the colour must be what `set_colour`
+    /// set last.
+    pub fn owed(&self, record: &Record, layout: Layout, settings: u8, seen: &mut Seen) -> Result<[Owed; 2], String> {
         let both = |number| [Owed::Refused(number), Owed::Refused(number)];
         let segments = match &self.reading {
             Err(number) => return Ok(both(*number)),
@@ -114,20 +116,25 @@ impl Ruled {
         if let Some(number) = ruling::record(record, layout) {
             return Ok(both(number));
         }
-        let settings = if colour { COLOUR } else { 0 };
         let crates = ruling::line(segments, record, settings);
         let straight = ruling::line(segments, record, settings | STRAIGHT);
-        judged_straight(segments, record, &crates, &straight)?;
+        judged_straight(segments, record, settings & PLACES, &crates, &straight)?;
         let owed = [&crates, &straight].map(|line| Owed::Line(line.text.clone().into_bytes()));
         match &self.judge {
             Judge::Nobody => unreachable!("the crate was asked where the template is read"),
-            Judge::Crate(read) => judged_line(read, segments, record, settings, &crates, seen)?,
-            Judge::Other(ruled) => drop(ruled.owed(record, layout, colour, seen)?),
+            Judge::Crate(asked) => {
+                asked.judged(segments, record, settings, &crates, seen)?;
+                seen.places.extend(placed(segments, record, settings, [&crates, &straight])?);
+            }
+            Judge::Other(ruled) => drop(ruled.owed(record, layout, settings, seen)?),
             Judge::StandIn(ruled, stand_in) => {
-                same_lines(&owed, &ruled.owed(&stand_in.lent(record), layout, colour, seen)?)?;
+                same_lines(&owed, &ruled.owed(&stand_in.lent(record), layout, settings, seen)?)?;
                 seen.heads.push((*stand_in).into());
             }
-            Judge::Alone => seen.heads.push(Judged::Alone),
+            Judge::Alone => {
+                seen.heads.push(Judged::Alone);
+                seen.places.extend(placed(segments, record, settings, [&crates, &straight])?);
+            }
         }
         Ok(owed)
     }
@@ -156,10 +163,9 @@ fn judged_reading(template: &str, reading: &Result<Reading, u8>, seen: &mut Seen
         _ => false,
     };
     if agree {
-        if let Ok(reading) = reading {
-            strict::judged(template, reading)?;
-        }
-        return Ok(asked.and_then(Result::ok).map_or(Judge::Nobody, Judge::Crate));
+        let (Ok(reading), Some(Ok(read))) = (reading, asked) else { return Ok(Judge::Nobody) };
+        strict::judged(template, reading)?;
+        return Asked::new(template, read, reading).map(Judge::Crate);
     }
     let (crates, ruled) = (judge::segments(template.as_bytes()), ruled_dump(template, reading));
     match judged_by_letters(template, reading, &crates, &ruled) {
@@ -205,7 +211,7 @@ fn names_timestamp(segments: &[Segment]) -> bool {
 }
 
 /// The crate must show this line, or something else for a listed reason, without which it must agree.
-fn judged_line(
+pub fn judged_line(
     asked: &Template,
     segments: &[Segment],
     record: &Record,
@@ -235,10 +241,16 @@ fn is(shown: &Shown, line: &str) -> bool {
 
 /// The crate has no straight mode. Where it inserts nothing the two modes are one; and without byte 27 in any text,
 /// what is visible is the plain line, which the crate has judged.
-fn judged_straight(segments: &[Segment], record: &Record, crates: &Line, straight: &Line) -> Result<(), String> {
+fn judged_straight(
+    segments: &[Segment],
+    record: &Record,
+    rule: u8,
+    crates: &Line,
+    straight: &Line,
+) -> Result<(), String> {
     let same = crates.inserted || straight.text == crates.text;
     let foreign = record.fields().iter().any(|field| field.contains(&27)) || has_escape(segments);
-    let visible = foreign || without_sequences(&straight.text) == ruling::line(segments, record, 0).text;
+    let visible = foreign || without_sequences(&straight.text) == ruling::line(segments, record, rule).text;
     if same && visible {
         Ok(())
     } else {

@@ -1,7 +1,8 @@
-//! Document 01's line of a record, in all modes, with document 02's serial of a head (E7). The crate judges it wherever the
-//! crate has an answer.
+//! Document 01's line of a record, in all modes, with document 02's serial of a head (E7), in both rules for counting (E14).
+//! The crate judges it wherever the crate has an answer.
 
-use crate::sheet::{Record, COLOUR, HOST, STRAIGHT};
+use super::wide::places;
+use crate::sheet::{Record, COLOUR, HOST, PLACES, STRAIGHT};
 use crate::tree::{Alignment, Colour, Format, Kind, Padding, Segment, Specifier, STYLES};
 
 const RESET: &str = "\x1b[0m";
@@ -107,7 +108,8 @@ impl Builder<'_> {
         let visible = without_sequences(&text);
         let width = format.width.unwrap_or(default);
         self.widest = self.widest.max(width + text.len() - visible.len());
-        let mut counted = visible.chars().count();
+        // "The count used by padding takes the rule as an input"
+        let mut counted = if self.settings & PLACES == 0 { visible.chars().count() } else { places(&visible) };
         let Some(prefix) = self.prefix(format, colour) else { return padded(text, width, counted, format) };
         let dressed = text.replace(RESET, &format!("{RESET}{prefix}"));
         self.inserted |= dressed.len() > text.len();

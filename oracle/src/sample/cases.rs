@@ -41,6 +41,7 @@ pub fn all(seed: u64) -> Vec<Case> {
     maker.listed();
     maker.strict();
     maker.heads();
+    maker.places();
     maker.cases
 }
 

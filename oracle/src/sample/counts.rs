@@ -20,6 +20,7 @@ impl Counts {
             ("family", case.family.to_string()),
             ("setting", if case.sheet.colour() { "colour on" } else { "colour off" }.to_string()),
             ("edition", if case.sheet.strict() { "strict" } else { "first" }.to_string()),
+            ("rule", if case.sheet.places() { "places" } else { "characters" }.to_string()),
             ("records", if case.sheet.layout() == Layout::Old { "old" } else { "with heads" }.to_string()),
             ("answer", summary(answer)),
         ];

@@ -2,7 +2,7 @@
 
 use super::gauge;
 use super::texts::cycled;
-use crate::sheet::{Layout, Sheet, COLOUR, STRAIGHT, STRICT};
+use crate::sheet::{Layout, Sheet, COLOUR, PLACES, STRAIGHT, STRICT};
 use pralakuon::entries;
 use std::hint::black_box;
 use std::thread;
@@ -27,10 +27,17 @@ fn print() {
     let mut out = vec![0; 1 << 20];
     println!("| entry | stack, bytes at most |\n|---|---|");
     let straight = COLOUR | STRAIGHT;
-    for (name, settings) in [("plain", 0), ("straight", straight), ("straight, strict", straight | STRICT)] {
+    for (name, settings) in [
+        ("plain", 0),
+        ("straight", straight),
+        ("straight, strict", straight | STRICT),
+        ("straight, places", straight | PLACES),
+    ] {
         let used = most(&templates, |template| entries::line(template, settings, &record, &mut out));
         println!("| `pralakuon_line`, {name} | {used} |");
     }
+    let used = most(&sheets(straight | PLACES), |sheet| entries::session(sheet, &mut out));
+    println!("| `pralakuon_session`, places | {used} |");
     for (name, strict) in [("", 0), (", strict", STRICT)] {
         let used = most(&sheets(straight | strict), |sheet| entries::session(sheet, &mut out));
         println!("| `pralakuon_session`{name} | {used} |");

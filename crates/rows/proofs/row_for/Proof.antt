@@ -61,14 +61,14 @@ raw-of-requires : tie.Need-raw-of-requires
 raw-of-requires c κs = let p = c .before .before .before .before .before .before .before .before .before .before .before .before .before .before in let s = p .args .s in let t₀ = p .args .t .now in let d = p .args .d .now in let n = p .args .numbers .now in let cells = p .args .cells .now in
     let i = p .args .i in let x = segmentAt cells i in
     let q : isBare (sourceBy n) x ≡ false = sym (c .before .before .before .before .before .before .before .is-bare .ensures) ∙ c .before .before .before .before .before .before .if1 .left in
-    (p .pre .0, (p .pre .1 .0, ((subst Small (sym (c .none .ensures)) small-nothing, omega (arith, p .pre .1 .1 .0, raw-shorter s t₀ d n x false q, ap (λ (y : Measure). y .len) (c .none .ensures))), p .pre .1 .1 .1)))
+    (p .pre .0, (p .pre .1 .0, ((subst Small (sym (c .none .ensures)) (small-nothing (s .rule)), omega (arith, p .pre .1 .1 .0, raw-shorter s t₀ d n x false q, ap (λ (y : Measure). y .len) (c .none .ensures))), p .pre .1 .1 .1)))
 
 inserted-in-requires : tie.Need-inserted-in-requires
 inserted-in-requires c κs = let p = c .before .before .before .before .before .before .before .before .before .before .before .before .before .before .before in let s = p .args .s in let t₀ = p .args .t .now in let d = p .args .d .now in let n = p .args .numbers .now in let cells = p .args .cells .now in let r = recordBy n d in
     let i = p .args .i in let x = segmentAt cells i in
     let q : isBare (sourceBy n) x ≡ false = sym (c .before .before .before .before .before .before .before .before .is-bare .ensures) ∙ c .before .before .before .before .before .before .before .if1 .left in
-    let xe : c .raw-of .result ≡ grown nothing (rawText s t₀ r x) = c .raw-of .ensures ∙ ap (λ (y : Measure). grown y (rawText s t₀ r x)) (c .before .none .ensures) in
-    let sm : Small (c .raw-of .result) = subst Small (sym xe) (small-grown nothing (rawText s t₀ r x) small-nothing) in
+    let xe : c .raw-of .result ≡ grown (nothing (s .rule)) (rawText s t₀ r x) = c .raw-of .ensures ∙ ap (λ (y : Measure). grown y (rawText s t₀ r x)) (c .before .none .ensures) in
+    let sm : Small (c .raw-of .result) = subst Small (sym xe) (small-grown (nothing (s .rule)) (rawText s t₀ r x) (small-nothing (s .rule))) in
     omega (arith, p .pre .1 .1 .0, raw-shorter s t₀ d n x false q, ap (λ (y : Measure). y .len) xe, sm .resets)
 
 padding-in-requires : tie.Need-padding-in-requires
@@ -77,32 +77,32 @@ padding-in-requires c κs = search needs
 ends-len-requires : tie.Need-ends-len-requires
 ends-len-requires c κs = search needs
 
-add-t22 : tie.Need-add-t22
-add-t22 c = let p = c .before .before .before .before .before .before .before .before .before .before .before .before .before .before .before .before .before .before in let s = p .args .s in let t₀ = p .args .t .now in let d = p .args .d .now in let n = p .args .numbers .now in let cells = p .args .cells .now in let r = recordBy n d in
-    let i = p .args .i in let x = segmentAt cells i in
-    let q : isBare (sourceBy n) x ≡ false = sym (c .before .before .before .before .before .before .before .before .before .before .before .is-bare .ensures) ∙ c .before .before .before .before .before .before .before .before .before .before .if1 .left in
-    let xe : c .before .before .before .raw-of .result ≡ grown nothing (rawText s t₀ r x) = c .before .before .before .raw-of .ensures ∙ ap (λ (y : Measure). grown y (rawText s t₀ r x)) (c .before .before .before .before .none .ensures) in
-    omega (arith, p .pre .1 .1 .0, row-counted s t₀ d n x (c .before .before .before .before .before .before .before .before .before .format-of .result) (c .before .before .before .raw-of .result) (c .before .before .inserted-in .result) (c .before .padding-in .result) (c .before .before .before .before .before .before .before .prefix-len .result) (c .ends-len .result) q (c .before .before .before .before .before .before .before .before .before .format-of .ensures) xe (c .before .before .inserted-in .ensures) (c .before .padding-in .ensures) (c .before .before .before .before .before .before .before .prefix-len .ensures .0) (c .ends-len .ensures))
-
 add-t23 : tie.Need-add-t23
 add-t23 c = let p = c .before .before .before .before .before .before .before .before .before .before .before .before .before .before .before .before .before .before in let s = p .args .s in let t₀ = p .args .t .now in let d = p .args .d .now in let n = p .args .numbers .now in let cells = p .args .cells .now in let r = recordBy n d in
     let i = p .args .i in let x = segmentAt cells i in
     let q : isBare (sourceBy n) x ≡ false = sym (c .before .before .before .before .before .before .before .before .before .before .before .is-bare .ensures) ∙ c .before .before .before .before .before .before .before .before .before .before .if1 .left in
-    let xe : c .before .before .before .raw-of .result ≡ grown nothing (rawText s t₀ r x) = c .before .before .before .raw-of .ensures ∙ ap (λ (y : Measure). grown y (rawText s t₀ r x)) (c .before .before .before .before .none .ensures) in
+    let xe : c .before .before .before .raw-of .result ≡ grown (nothing (s .rule)) (rawText s t₀ r x) = c .before .before .before .raw-of .ensures ∙ ap (λ (y : Measure). grown y (rawText s t₀ r x)) (c .before .before .before .before .none .ensures) in
     omega (arith, p .pre .1 .1 .0, row-counted s t₀ d n x (c .before .before .before .before .before .before .before .before .before .format-of .result) (c .before .before .before .raw-of .result) (c .before .before .inserted-in .result) (c .before .padding-in .result) (c .before .before .before .before .before .before .before .prefix-len .result) (c .ends-len .result) q (c .before .before .before .before .before .before .before .before .before .format-of .ensures) xe (c .before .before .inserted-in .ensures) (c .before .padding-in .ensures) (c .before .before .before .before .before .before .before .prefix-len .ensures .0) (c .ends-len .ensures))
 
 add-t24 : tie.Need-add-t24
-add-t24 c = let p = c .before .before .before .before .before .before .before .before .before .before .before .before .before .before .before .before .before .before .before in let s = p .args .s in let t₀ = p .args .t .now in let d = p .args .d .now in let n = p .args .numbers .now in let cells = p .args .cells .now in let r = recordBy n d in
+add-t24 c = let p = c .before .before .before .before .before .before .before .before .before .before .before .before .before .before .before .before .before .before in let s = p .args .s in let t₀ = p .args .t .now in let d = p .args .d .now in let n = p .args .numbers .now in let cells = p .args .cells .now in let r = recordBy n d in
+    let i = p .args .i in let x = segmentAt cells i in
+    let q : isBare (sourceBy n) x ≡ false = sym (c .before .before .before .before .before .before .before .before .before .before .before .is-bare .ensures) ∙ c .before .before .before .before .before .before .before .before .before .before .if1 .left in
+    let xe : c .before .before .before .raw-of .result ≡ grown (nothing (s .rule)) (rawText s t₀ r x) = c .before .before .before .raw-of .ensures ∙ ap (λ (y : Measure). grown y (rawText s t₀ r x)) (c .before .before .before .before .none .ensures) in
+    omega (arith, p .pre .1 .1 .0, row-counted s t₀ d n x (c .before .before .before .before .before .before .before .before .before .format-of .result) (c .before .before .before .raw-of .result) (c .before .before .inserted-in .result) (c .before .padding-in .result) (c .before .before .before .before .before .before .before .prefix-len .result) (c .ends-len .result) q (c .before .before .before .before .before .before .before .before .before .format-of .ensures) xe (c .before .before .inserted-in .ensures) (c .before .padding-in .ensures) (c .before .before .before .before .before .before .before .prefix-len .ensures .0) (c .ends-len .ensures))
+
+add-t25 : tie.Need-add-t25
+add-t25 c = let p = c .before .before .before .before .before .before .before .before .before .before .before .before .before .before .before .before .before .before .before in let s = p .args .s in let t₀ = p .args .t .now in let d = p .args .d .now in let n = p .args .numbers .now in let cells = p .args .cells .now in let r = recordBy n d in
     let i = p .args .i in let x = segmentAt cells i in
     let q : isBare (sourceBy n) x ≡ false = sym (c .before .before .before .before .before .before .before .before .before .before .before .before .is-bare .ensures) ∙ c .before .before .before .before .before .before .before .before .before .before .before .if1 .left in
-    let xe : c .before .before .before .before .raw-of .result ≡ grown nothing (rawText s t₀ r x) = c .before .before .before .before .raw-of .ensures ∙ ap (λ (y : Measure). grown y (rawText s t₀ r x)) (c .before .before .before .before .before .none .ensures) in
+    let xe : c .before .before .before .before .raw-of .result ≡ grown (nothing (s .rule)) (rawText s t₀ r x) = c .before .before .before .before .raw-of .ensures ∙ ap (λ (y : Measure). grown y (rawText s t₀ r x)) (c .before .before .before .before .before .none .ensures) in
     omega (arith, p .pre .1 .1 .0, row-counted s t₀ d n x (c .before .before .before .before .before .before .before .before .before .before .format-of .result) (c .before .before .before .before .raw-of .result) (c .before .before .before .inserted-in .result) (c .before .before .padding-in .result) (c .before .before .before .before .before .before .before .before .prefix-len .result) (c .before .ends-len .result) q (c .before .before .before .before .before .before .before .before .before .before .format-of .ensures) xe (c .before .before .before .inserted-in .ensures) (c .before .before .padding-in .ensures) (c .before .before .before .before .before .before .before .before .prefix-len .ensures .0) (c .before .ends-len .ensures))
 
 returns-3 : tie.Need-returns-3
 returns-3 c = let p = c .before .before .before .before .before .before .before .before .before .before .before .before .before .before .before .before .before .before .before in let s = p .args .s in let t₀ = p .args .t .now in let d = p .args .d .now in let n = p .args .numbers .now in let cells = p .args .cells .now in let r = recordBy n d in
     let i = p .args .i in let x = segmentAt cells i in
     let q : isBare (sourceBy n) x ≡ false = sym (c .before .before .before .before .before .before .before .before .before .before .before .before .is-bare .ensures) ∙ c .before .before .before .before .before .before .before .before .before .before .before .if1 .left in
-    let xe : c .before .before .before .before .raw-of .result ≡ grown nothing (rawText s t₀ r x) = c .before .before .before .before .raw-of .ensures ∙ ap (λ (y : Measure). grown y (rawText s t₀ r x)) (c .before .before .before .before .before .none .ensures) in
+    let xe : c .before .before .before .before .raw-of .result ≡ grown (nothing (s .rule)) (rawText s t₀ r x) = c .before .before .before .before .raw-of .ensures ∙ ap (λ (y : Measure). grown y (rawText s t₀ r x)) (c .before .before .before .before .before .none .ensures) in
     row-made s t₀ d n x (c .before .before .before .before .before .before .before .before .before .before .format-of .result) (c .before .before .before .before .raw-of .result) (c .before .before .before .inserted-in .result) (c .before .before .padding-in .result) (c .before .before .before .before .before .before .before .before .prefix-len .result) (c .before .ends-len .result) q (c .before .before .before .before .before .before .before .before .before .before .format-of .ensures) xe (c .before .before .before .inserted-in .ensures) (c .before .before .padding-in .ensures) (c .before .before .before .before .before .before .before .before .prefix-len .ensures .0) (c .before .ends-len .ensures)
 
 pub row-for-spec : {M : Type 1} → statement M
@@ -123,7 +123,7 @@ row-for-spec =
     inserted-in-requires
     padding-in-requires
     ends-len-requires
-    add-t22
     add-t23
     add-t24
+    add-t25
     returns-3)

@@ -93,7 +93,7 @@ fn other(rng: &mut Rng) -> &'static str {
 pub const PLACES: [(&str, &str); 4] = [("{s", "}"), ("{", "{s}}"), ("{s:red", "}"), ("{s:", "red}")];
 
 /// Surrogates are none.
-const CHARACTERS: u64 = 0x11_0000 - 0x800;
+pub const CHARACTERS: u64 = 0x11_0000 - 0x800;
 
 /// How many there are of every character in every place.
 pub fn count() -> u64 {
@@ -103,9 +103,13 @@ pub fn count() -> u64 {
 pub fn nth_template(nth: u64) -> String {
     let places = PLACES.len() as u64;
     let (before, after) = PLACES[(nth % places) as usize];
-    let point = (nth / places) as u32;
+    format!("{before}{}{after}", nth_character(nth / places))
+}
+
+pub fn nth_character(nth: u64) -> char {
+    let point = nth as u32;
     let point = if point < 0xd800 { point } else { point + 0x800 };
-    format!("{before}{}{after}", char::from_u32(point).expect("no surrogate"))
+    char::from_u32(point).expect("no surrogate")
 }
 
 pub fn record() -> Record {

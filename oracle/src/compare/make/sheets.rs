@@ -1,8 +1,8 @@
 //! Whole sheets, half of them damaged.
 
-use super::{crossed, heads, records, strict};
+use super::{crossed, heads, places, records, strict};
 use crate::sample::random::Rng;
-use crate::sheet::{write_bodies, Layout, Record, Sheet};
+use crate::sheet::{write_bodies, Layout, Record, Sheet, PLACES};
 
 /// Refusal 15 above it.
 const MOST: usize = 65536;
@@ -21,23 +21,27 @@ pub fn sheet(rng: &mut Rng) -> Vec<u8> {
 
 /// Settings and template, then up to three records, now and then in the other layout.
 fn bodies(rng: &mut Rng) -> Vec<Vec<u8>> {
-    let template = match rng.below(5) {
+    let template = match rng.below(6) {
         0 => crossed::template(rng),
         1 => strict::template(rng),
         2 => heads::template(rng),
+        3 => places::template(rng).into_bytes(),
         _ => rng.template(2).into_bytes(),
     };
     let settings = any_settings(rng);
     let mut bodies = vec![[&[settings], &template[..]].concat()];
     for _ in 0..rng.below(4) {
         let layout = if rng.one_in(40) { heads::layout(rng) } else { Layout::of(settings) };
-        bodies.push(records::record(rng, layout));
+        let wide = settings & PLACES != 0 && rng.one_in(2);
+        bodies.push(if wide { places::record(rng, layout).write(layout) } else { records::record(rng, layout) });
     }
     bodies
 }
 
+/// Of all that are known; a fifth in the places rule.
 fn any_settings(rng: &mut Rng) -> u8 {
-    rng.below(16) as u8
+    let rule = if rng.one_in(5) { PLACES } else { 0 };
+    rule | rng.below(16) as u8
 }
 
 fn damaged_bodies(rng: &mut Rng, mut bodies: Vec<Vec<u8>>) -> Vec<Vec<u8>> {

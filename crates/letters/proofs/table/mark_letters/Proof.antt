@@ -1,8 +1,8 @@
 -- `letters::table::mark_letters` meets its contract: the code's table is that of the ranges. Assumes nothing.
 use borrow.Author.Needs.{needs}
 use mathlib.Core.Path.{refl}
+use Rattle.points.specs.Ranges.{ends}
 use Rattle.letters.specs.Alphabetic.{alphabetic}
-use Rattle.letters.specs.Letters.{ends}
 use Rattle.letters.proofs.table.mark_letters.Statement.{statement}
 use Rattle.letters.proofs.table.mark_letters.Tie as tie
 

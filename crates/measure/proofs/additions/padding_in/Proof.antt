@@ -32,7 +32,7 @@ unfolding paddingIn
 returns c =
     let p = c .before .before .before .before .before in
     let x = p .args .x in
-    let due = p .args .f .width - (x .chars - x .scan .sequences) in
+    let due = p .args .f .width - (x .count - x .scan .sequences) in
     let s = p .args .s .straight in
     let e : c .less3 .result ≡ due - cond s 0 (p .args .n) =
     omega (arith, c .before .before .before .less .ensures, c .before .before .less2 .ensures, c .before .against-padding .ensures, c .less3 .ensures) in

@@ -1,0 +1,4 @@
+pub mod Order
+pub mod Halving
+pub mod Lookup
+pub mod Decoded

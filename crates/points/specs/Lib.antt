@@ -1,0 +1,4 @@
+pub mod Decoding
+pub mod Ranges
+pub mod Searching
+pub mod Computing

@@ -1,0 +1,3 @@
+pub mod Stretches
+pub mod Running
+pub mod Characters

@@ -1,0 +1,4 @@
+pub mod Wide
+pub mod Widths
+pub mod Fitting
+pub mod Computing
