@@ -39,7 +39,7 @@ use Rattle.colour.proofs.Measures.{opened, scan-inserted}
 below : (q : State) (b : ℕ) → (actOf q b ≡ Text → ⊥) → b < 0x80
 below q b n = elim (decLt b 0x80) [ yes h ↦ h | no g ↦ absurd (n (act-high q b (omega arith))) ]
 
-abbrev Low : List ℕ → Type 0
+abbrev pub Low : List ℕ → Type 0
 Low [] = Unit {0}
 Low (b ∷ s) = (b < 0x80) × Low s
 
@@ -56,7 +56,7 @@ let-go-behind : (k n : ℕ) → letGo k (noneBegun n) ≡ noneBegun n
 let-go-behind zero n = refl
 let-go-behind (suc k) n = refl
 
-ran-low : (h : List ℕ) → Low h → (w : Wides) → ran w h ≡ letGo (length h) w
+pub ran-low : (h : List ℕ) → Low h → (w : Wides) → ran w h ≡ letGo (length h) w
 unfolding ran
 ran-low [] g w = refl
 ran-low (b ∷ h) g w = ap (λ (v : Wides). ran v h) (advanced-ascii w b (g .0)) ∙ ran-low h (g .1) (noneBegun (w .wide)) ∙ let-go-behind (length h) (w .wide)

@@ -2,7 +2,8 @@
 use Prim.Native.Nat.{ℕ, zero, suc, _+_, _-_, _*_, _≤_}
 use mathlib.Core.Path.{_≡_}
 use mathlib.Core.Bool.{Bool, true, false}
-use mathlib.Core.List.{List}
+use mathlib.Core.List.{List, [], _∷_}
+use lib.Dec.{eqb, ltb}
 use lib.ListN.{length}
 use Rattle.characters.specs.Characters.{chars}
 use Rattle.widths.specs.declared.Rule.{Rule}
@@ -13,6 +14,7 @@ use Rattle.colour.specs.declared.Scan.{Scan}
 use Rattle.colour.specs.declared.Settings.{Settings}
 use Rattle.colour.specs.declared.Format.{Format}
 use Rattle.colour.specs.Formatting.{prefixIn, counted}
+use Rattle.colour.specs.Sequences.{esc}
 use Rattle.colour.specs.Machine.{scan, resting, start}
 use Rattle.colour.specs.Seeing.{seenAfter}
 use Rattle.measure.specs.declared.Eye.{Eye}
@@ -73,6 +75,11 @@ abbrev pub behindPadding : Eye → Bool → Eye
 behindPadding e rests = behindIn (e .rule) e rests
 
 -- ---- measures
+
+-- whether a text is ASCII without byte 27
+unfoldable pub isPlain : List ℕ → Bool
+isPlain [] = true
+isPlain (b ∷ s) = elim (ltb b 0x80) [ true ↦ elim (eqb b esc) [ true ↦ false | false ↦ isPlain s ] | false ↦ false ]
 
 -- nothing yet
 abbrev pub nothing : Rule → Measure

@@ -1,6 +1,7 @@
 // A measure, and a text more.
 use super::Eye;
 use super::Measure;
+use super::padding::eye_behind;
 use super::seeing::see;
 use characters::Counted;
 use characters::count_chars;
@@ -10,12 +11,14 @@ use scanning::skipping::rests;
 use scanning::skipping::scan_text;
 use widths::Rule;
 ghost use mathlib.Core.Path.{_≡_};
+ghost use mathlib.Core.Bool.{true};
 ghost use Prim.Native.Nat.{_+_, _<_, _^_};
 ghost use lib.ListN.{length};
 ghost use Rattle.characters.specs.Characters.{chars, has};
 ghost use Rattle.colour.specs.Machine.{scan};
 ghost use Rattle.colour.specs.Sequences.{esc};
-ghost use Rattle.measure.specs.Measures.{nothing, grown, Small};
+ghost use Rattle.scanning.specs.Resting.{isResting};
+ghost use Rattle.measure.specs.Measures.{nothing, isPlain, grown, Small};
 
 // Nothing, measured by a rule.
 pub fn none(rule: Rule) -> Measure
@@ -38,8 +41,63 @@ pub fn none(rule: Rule) -> Measure
     }
 }
 
+// Bytes up to which a text is looked at one by one before all else: most texts are short and plain, and need no more.
+const SHORT: usize = 16;
+
 // The measure of what a measures, then the text s.
 pub fn add(a: Measure, s: &[u8]) -> Measure
+    requires { ⌜ (Small a) × (a .len + length (now s) < 2 ^ 58) ⌝ }
+    ensures { λ r. ⌜ r ≡ grown a (now (s .entry)) ⌝ }
+{
+    let t = a.scan;
+    if s.len() <= SHORT {
+        if rests(t) {
+            if is_plain(s) {
+                return add_plain(a, s);
+            }
+        }
+    }
+    add_any(a, s)
+}
+
+// Whether s is ASCII without byte 27.
+fn is_plain(s: &[u8]) -> bool
+    ensures { λ r. ⌜ r ≡ isPlain (now (s .entry)) ⌝ }
+{
+    let mut i = 0;
+    while i < s.len() {
+        if 0x7F < s[i] {
+            return false;
+        }
+        if s[i] == 27 {
+            return false;
+        }
+        i += 1;
+    }
+    true
+}
+
+// The same of such a text, where no sequence has begun: it is all seen, and each byte counts one.
+fn add_plain(a: Measure, s: &[u8]) -> Measure
+    requires { ⌜ (Small a) × (a .len + length (now s) < 2 ^ 58) ⌝ }
+    requires { ⌜ (isResting (a .scan .state) (a .scan .held) ≡ true) × (isPlain (now s) ≡ true) ⌝ }
+    ensures { λ r. ⌜ r ≡ grown a (now (s .entry)) ⌝ }
+{
+    let n = s.len();
+    if n == 0 {
+        return a;
+    }
+    let t = a.scan;
+    Measure {
+        scan: t,
+        eye: eye_behind(a.eye, t),
+        count: a.count + n,
+        len: a.len + n,
+    }
+}
+
+// The same of any text.
+fn add_any(a: Measure, s: &[u8]) -> Measure
     requires { ⌜ (Small a) × (a .len + length (now s) < 2 ^ 58) ⌝ }
     ensures { λ r. ⌜ r ≡ grown a (now (s .entry)) ⌝ }
 {

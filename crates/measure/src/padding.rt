@@ -54,7 +54,8 @@ pub(crate) fn pad(a: Measure, z: Padding, n: usize) -> Measure
 }
 
 // The eye behind padding after which the search is u: a byte of it that is seen ends what has begun, and one that is not goes on with a sequence.
-fn eye_behind(e: Eye, u: Scan) -> Eye
+// Other ASCII that is seen ends it alike.
+pub(crate) fn eye_behind(e: Eye, u: Scan) -> Eye
     ensures { λ r. ⌜ r ≡ behindPadding e (isResting (u .state) (u .held)) ⌝ }
 {
     let rule = e.rule;
