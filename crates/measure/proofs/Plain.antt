@@ -1,6 +1,6 @@
 -- Texts of ASCII without byte 27. Assumes nothing.
 use mathlib.Core.Path.{_≡_, refl, ap, sym, _∙_}
-use mathlib.Core.Bool.{Bool, true, false}
+use mathlib.Core.Bool.{Bool, true, false, cond}
 use mathlib.Core.List.{List, [], _∷_}
 use Prim.Native.Nat.{ℕ, _+_, _<_, _≤_}
 use native.Mathlib.Omega.{arith}
@@ -26,7 +26,7 @@ use Rattle.scanning.proofs.Rests.{rests-outside}
 use Rattle.measure.specs.declared.Eye.{Eye}
 use Rattle.measure.specs.declared.Measure.{Measure}
 use Rattle.measure.specs.Measures.{begunWith, eyeOn, eyeAfter, wideIn, behindPadding, isPlain, grown}
-use Rattle.measure.proofs.Measured.{measure-eq}
+use Rattle.measure.proofs.Measured.{measure-eq, grown-nil}
 
 -- ---- byte by byte
 
@@ -85,16 +85,17 @@ module _ (x y : ℕ) (t : Scan) (e : t .state ≡ Outside) (f : t .held ≡ 0) (
   wide-plain Rule.Characters = refl
   wide-plain Rule.Places = ap (λ (w : Wides). w .wide) all-seen
 
-pub grown-plain : (a : Measure) (s : List ℕ) (e : Eye) → (length s ≡ 0 → ⊥) → isResting (a .scan .state) (a .scan .held) ≡ true → isPlain s ≡ true
-    → e ≡ behindPadding (a .eye) (isResting (a .scan .state) (a .scan .held))
+pub grown-plain : (a : Measure) (s : List ℕ) (e : Eye) → isResting (a .scan .state) (a .scan .held) ≡ true → isPlain s ≡ true
+    → e ≡ cond (eqb (length s) 0) (a .eye) (behindPadding (a .eye) (isResting (a .scan .state) (a .scan .held)))
     → _≡_ {A = Measure} (record { scan = a .scan; eye = e; count = a .count + length s; len = a .len + length s }) (grown a s)
-grown-plain a [] e n r h g = absurd (n refl)
-grown-plain a (b ∷ s) e n r h g =
+grown-plain a [] e r h g =
+    measure-eq (a .scan) (a .scan) e (a .eye) (a .count + 0) (a .count) (a .len + 0) (a .len) refl g (omega arith) (omega arith) ∙ sym (grown-nil a)
+grown-plain a (b ∷ s) e r h g =
     let o = a .eye in
     let q = rests-outside (a .scan .state) (a .scan .held) r in
     measure-eq (a .scan) (scan (a .scan) (b ∷ s)) e (eyeAfter o (a .scan) (b ∷ s))
     (a .count + length (b ∷ s)) (grown a (b ∷ s) .count) (a .len + length (b ∷ s)) (a .len + length (b ∷ s))
     (sym (scan-free (b ∷ s) (plain-free (b ∷ s) h) (a .scan) (q .0) (q .1)))
-    (g ∙ ap (behindPadding o) r ∙ sym (eye-plain (o .awaited) (o .bits) (a .scan) (q .0) (q .1) b s h (o .rule)))
+    (g ∙ ap (λ (z : Bool). cond z o (behindPadding o (isResting (a .scan .state) (a .scan .held)))) (ne-eqb (length (b ∷ s)) 0 (λ z. omega (arith, z))) ∙ ap (behindPadding o) r ∙ sym (eye-plain (o .awaited) (o .bits) (a .scan) (q .0) (q .1) b s h (o .rule)))
     (omega (arith, low-chars (b ∷ s) (plain-low (b ∷ s) h), wide-plain (o .awaited) (o .bits) (a .scan) (q .0) (q .1) b s h (o .rule)))
     refl

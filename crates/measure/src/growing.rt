@@ -11,14 +11,15 @@ use scanning::skipping::rests;
 use scanning::skipping::scan_text;
 use widths::Rule;
 ghost use mathlib.Core.Path.{_≡_};
-ghost use mathlib.Core.Bool.{true};
+ghost use mathlib.Core.Bool.{true, cond};
 ghost use Prim.Native.Nat.{_+_, _<_, _^_};
+ghost use lib.Dec.{eqb};
 ghost use lib.ListN.{length};
 ghost use Rattle.characters.specs.Characters.{chars, has};
 ghost use Rattle.colour.specs.Machine.{scan};
 ghost use Rattle.colour.specs.Sequences.{esc};
 ghost use Rattle.scanning.specs.Resting.{isResting};
-ghost use Rattle.measure.specs.Measures.{nothing, isPlain, grown, Small};
+ghost use Rattle.measure.specs.Measures.{nothing, behindPadding, isPlain, grown, Small};
 
 // Nothing, measured by a rule.
 pub fn none(rule: Rule) -> Measure
@@ -41,8 +42,9 @@ pub fn none(rule: Rule) -> Measure
     }
 }
 
-// Bytes up to which a text is looked at one by one before all else: most texts are short and plain, and need no more.
-const SHORT: usize = 16;
+// Bytes up to which a text is looked at one by one before all else: many texts of a line are short and plain, and need no more. Longer ones are counted
+// faster by blocks.
+const SHORT: usize = 8;
 
 // The measure of what a measures, then the text s.
 pub fn add(a: Measure, s: &[u8]) -> Measure
@@ -77,26 +79,33 @@ fn is_plain(s: &[u8]) -> bool
     true
 }
 
-// The same of such a text, where no sequence has begun: it is all seen, and each byte counts one.
+// The measure with a plain text more, where no sequence has begun: it is all seen, and each byte counts one.
 fn add_plain(a: Measure, s: &[u8]) -> Measure
     requires { ⌜ (Small a) × (a .len + length (now s) < 2 ^ 58) ⌝ }
     requires { ⌜ (isResting (a .scan .state) (a .scan .held) ≡ true) × (isPlain (now s) ≡ true) ⌝ }
     ensures { λ r. ⌜ r ≡ grown a (now (s .entry)) ⌝ }
 {
     let n = s.len();
-    if n == 0 {
-        return a;
-    }
     let t = a.scan;
     Measure {
         scan: t,
-        eye: eye_behind(a.eye, t),
+        eye: eye_past(a.eye, t, n),
         count: a.count + n,
         len: a.len + n,
     }
 }
 
-// The same of any text.
+// The eye behind n bytes of a plain text.
+fn eye_past(e: Eye, t: Scan, n: usize) -> Eye
+    ensures { λ r. ⌜ r ≡ cond (eqb n 0) e (behindPadding e (isResting (t .state) (t .held))) ⌝ }
+{
+    if n == 0 {
+        return e;
+    }
+    eye_behind(e, t)
+}
+
+// The measure with any text more.
 fn add_any(a: Measure, s: &[u8]) -> Measure
     requires { ⌜ (Small a) × (a .len + length (now s) < 2 ^ 58) ⌝ }
     ensures { λ r. ⌜ r ≡ grown a (now (s .entry)) ⌝ }
@@ -117,7 +126,7 @@ fn add_any(a: Measure, s: &[u8]) -> Measure
     }
 }
 
-// The same by the places rule, where s was counted and u is the search after it.
+// The same by the places rule, where s was counted as c and u is the search after it.
 fn add_places(a: Measure, s: &[u8], c: Counted, u: Scan) -> Measure
     requires { ⌜ (Small a) × (a .len + length (now s) < 2 ^ 58) ⌝ }
     requires { ⌜ (a .eye .rule ≡ Rule.Places) × (u ≡ scan (a .scan) (now s)) ⌝ }

@@ -16,10 +16,11 @@ pub struct Eye {
     pub bits: u16,
 }
 
-// A text as measured: the search for colour sequences after it, the eye after it, what it counts, its bytes.
+// A text as measured: the search for colour sequences after it, what it counts, its bytes, the eye after it. Processors copy it by sixteen bytes, and
+// what was written by one such copy is read fast: so the two numbers that every text adds to stand in one of them, and the eye behind.
 pub struct Measure {
     pub scan: Scan,
-    pub eye: Eye,
     pub count: usize,
     pub len: usize,
+    pub eye: Eye,
 }

@@ -1,16 +1,16 @@
 -- A segment's text from its text before it is formatted and the frame around it, measured. Assumes nothing.
 use Prim.Native.Nat.{ℕ, _+_, _-_, _≤_}
 use mathlib.Core.Path.{_≡_, refl, sym, ap, _∙_, subst}
-use mathlib.Core.Bool.{Bool, true, false, cond}
-use mathlib.Core.List.{List, [], _∷_, _++_}
+use mathlib.Core.Bool.{Bool, true, false, cond, _&&_}
+use mathlib.Core.List.{List, [], _∷_, _++_, append-nil}
 use native.Mathlib.Omega.{arith}
-use borrow.Author.Tests.{ne-eqb}
+use borrow.Author.Tests.{ne-eqb, eqb-true}
 use lib.Dec.{eqb}
 use lib.ListN.{length, replicate, length-append, length-replicate}
 use Rattle.colour.specs.declared.Settings.{Settings}
 use Rattle.colour.specs.declared.Format.{Format}
 use Rattle.colour.specs.Formatting.{prefixIn, inserted, padded, before, padByte, ending, framed, formatted}
-use Rattle.colour.proofs.Formatted.{before-small, padded-small, inserted-nil}
+use Rattle.colour.proofs.Formatted.{before-small, padded-small, inserted-nil, laid-plain}
 use Rattle.colour.proofs.Measures.{length-laid, inserted-resets}
 use Rattle.measure.specs.declared.Measure.{Measure}
 use Rattle.measure.specs.Measures.{nothing, grown, more, insertedIn, paddingIn}
@@ -23,7 +23,8 @@ use Rattle.rows.specs.declared.Row.{Row}
 use Rattle.rows.specs.declared.Frame.{Frame}
 use Rattle.leaves.specs.Places.{placesOf, recordBy, sourceBy, levelBy}
 use Rattle.rows.specs.Texts.{segmentText, rawText, isBare, formatOf}
-use Rattle.rows.specs.Rows.{bareRow, rowIn, rowOf, frameBy}
+use Rattle.rows.specs.Rows.{bareRow, rowIn, rowOf, frameBy, isEmpty}
+use Rattle.buffer.proofs.Sameness.{both-true}
 use Rattle.leaves.proofs.Cutting.{empty}
 use Rattle.rows.proofs.Segments.{segment-bare, segment-formatted}
 
@@ -208,6 +209,23 @@ module _ (s : Settings) (w : Frame) (x y : List ℕ) (h : Framed s w x y) where
       ∙ ap (λ (k : ℕ). grown (more (grown (grown a (p ++ replicate l z)) x) (inserted p x)) (replicate k z ++ ending p)) (h .right)
       ∙ walked s f a x n
       ∙ ap (grown a) (sym (h .text))
+
+  -- an empty frame leaves the text as it is
+  pub framed-none : isEmpty s w ≡ true → y ≡ x
+  unfolding isEmpty
+  framed-none e =
+      let f = w .format in
+      let p = opening s f in
+      let z = padByte (f .padding) in
+      let n = padded s f x in
+      let b = both-true (eqb (w .left) 0) (eqb (w .right) 0 && eqb (length p) 0) e in
+      let g = both-true (eqb (w .right) 0) (eqb (length p) 0) (b .1) in
+      h .text
+      ∙ ap (λ (q : List ℕ). framed q f n x) (empty p (eqb-true (length p) 0 (g .1)))
+      ∙ laid-plain f n x
+      ∙ ap (λ (k : ℕ). replicate k z ++ (x ++ replicate (n - before (f .alignment) n) z)) (sym (h .left) ∙ eqb-true (w .left) 0 (b .0))
+      ∙ ap (λ (k : ℕ). x ++ replicate k z) (sym (h .right) ∙ eqb-true (w .right) 0 (g .0))
+      ∙ append-nil x
 
   -- nothing is inserted where there is no prefix
   pub inserted-none : length (opening s (w .format)) ≡ 0 → w .inserted ≡ 0

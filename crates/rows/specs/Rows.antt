@@ -1,7 +1,7 @@
 -- Scaffolding, for proofs alone: the table that measuring fills: three numbers for each segment of the pool. Assumes nothing.
 use Prim.Native.Nat.{ℕ, zero, suc, _+_, _*_, _-_, _≤_, _<_, _^_}
 use mathlib.Core.Path.{_≡_}
-use mathlib.Core.Bool.{true, false}
+use mathlib.Core.Bool.{Bool, true, false, _&&_}
 use mathlib.Core.List.{List}
 use lib.Dec.{eqb}
 use lib.ListN.{length, getD}
@@ -46,6 +46,10 @@ frameBy f w = record {
   right = w .padding - before (f .alignment) (w .padding);
   inserted = w .inserted;
 }
+
+-- whether a frame adds nothing: no padding and no prefix
+unfoldable pub isEmpty : Settings → Frame → Bool
+isEmpty s w = eqb (w .left) 0 && (eqb (w .right) 0 && eqb (length (prefixIn (s .colour) (w .format .look))) 0)
 
 -- the lengths in a table of the members back from a link, together: those at places below b
 unfoldable pub lengthsBelow : List ℕ → List ℕ → ℕ → ℕ → ℕ

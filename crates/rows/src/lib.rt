@@ -23,6 +23,7 @@ use prefix::length::prefix_len;
 use segment::format_of;
 use segment::frame_at;
 use segment::is_bare;
+use segment::is_empty;
 use segments::Kind;
 use widths::Rule;
 ghost use mathlib.Core.Path.{_≡_};
@@ -146,6 +147,9 @@ fn seg_of(
         return raw_of(cells, links, table, t, d, numbers, s, depth, i, a);
     }
     let w = frame_at(cells, table, numbers, i);
+    if is_empty(s, w) {
+        return raw_of(cells, links, table, t, d, numbers, s, depth, i, a);
+    }
     let f = w.format;
     let b = opened(a, s, f, w.left);
     let c = raw_of(cells, links, table, t, d, numbers, s, depth, i, b);

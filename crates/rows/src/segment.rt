@@ -2,11 +2,13 @@
 use super::Frame;
 use super::Row;
 use colour::Format;
+use colour::Settings;
 use formats::group_format;
 use formats::specifier_format;
 use measure::padding::before_text;
 use pool::format_at;
 use pool::kind_at;
+use prefix::length::prefix_len;
 use record::Source;
 use record::levels::source_of;
 use segments::Kind;
@@ -18,7 +20,7 @@ ghost use lib.ListN.{length};
 ghost use Rattle.segments.specs.Pool.{segmentAt};
 ghost use Rattle.leaves.specs.Places.{sourceBy, levelBy};
 ghost use Rattle.rows.specs.Texts.{bareFrom, isBare, formatOf};
-ghost use Rattle.rows.specs.Rows.{rowAt, frameBy};
+ghost use Rattle.rows.specs.Rows.{rowAt, frameBy, isEmpty};
 
 // Whether the segment at i is never formatted.
 pub fn is_bare(cells: &[usize], numbers: &[usize], i: usize) -> bool
@@ -91,4 +93,18 @@ pub fn frame_at(cells: &[usize], table: &[usize], numbers: &[usize], i: usize) -
         right: row.padding - left,
         inserted: row.inserted,
     }
+}
+
+// Whether a frame adds nothing to its text, as most inside a group do.
+pub(crate) fn is_empty(s: Settings, w: Frame) -> bool
+    ensures { λ r. ⌜ r ≡ isEmpty s w ⌝ }
+{
+    let f = w.format;
+    let k = f.look;
+    if w.left == 0 {
+        if w.right == 0 {
+            return prefix_len(s, k) == 0;
+        }
+    }
+    false
 }

@@ -23,7 +23,7 @@ use Rattle.rows.proofs.Linking.{member-room}
 use Rattle.rows.proofs.Depths.{group-deep, members-low, member-low}
 use Rattle.members.proofs.Forwards.{forward-less, After, member-next}
 use Rattle.rows.proofs.Segments.{raw-of-text, raw-of-members, raw-of-specifier, measured-none, measured-step}
-use Rattle.rows.proofs.Framing.{opening, Framed, bare-text, framed-by, framed-length, open-length, frame-walked}
+use Rattle.rows.proofs.Framing.{opening, Framed, bare-text, framed-by, framed-length, open-length, frame-walked, framed-none}
 use Rattle.rows.proofs.Tables.{readable-less, tabled-less}
 use Rattle.rows.proofs.+join_of+raw_of+seg_of.{statement}
 use Rattle.rows.proofs.+join_of+raw_of+seg_of.Tie.{close}
@@ -41,6 +41,7 @@ use Rattle.leaves.proofs.add_text.Reads as add-text-reads
 use Rattle.members.proofs.member_after.Reads as member-after-reads
 use Rattle.rows.proofs.segment.frame_at.Reads as frame-at-reads
 use Rattle.rows.proofs.segment.is_bare.Reads as is-bare-reads
+use Rattle.rows.proofs.segment.is_empty.Reads as is-empty-reads
 use Rattle.measure.proofs.framing.closed.Reads as closed-reads
 use Rattle.measure.proofs.framing.opened.Reads as opened-reads
 use Rattle.pool.proofs.kind_at.Reads as kind-at-reads
@@ -80,7 +81,7 @@ abbrev raw-of-calls : ℕ → raw-of-lts.Claims
 raw-of-calls t = (kind-at-reads.Asked, kind-at-reads.Learnt, add-text-reads.Asked, add-text-reads.Learnt, last-at-reads.Asked, last-at-reads.Learnt, join-of-below t, join-of.Post, add-field-reads.Asked, add-field-reads.Learnt)
 
 abbrev seg-of-calls : ℕ → seg-of-lts.Claims
-seg-of-calls t = (is-bare-reads.Asked, is-bare-reads.Learnt, raw-of-below t, raw-of.Post, frame-at-reads.Asked, frame-at-reads.Learnt, opened-reads.Asked, opened-reads.Learnt, closed-reads.Asked, closed-reads.Learnt)
+seg-of-calls t = (is-bare-reads.Asked, is-bare-reads.Learnt, raw-of-below t, raw-of.Post, frame-at-reads.Asked, frame-at-reads.Learnt, is-empty-reads.Asked, is-empty-reads.Learnt, opened-reads.Asked, opened-reads.Learnt, closed-reads.Asked, closed-reads.Learnt)
 
 abbrev join-of-Inv-loop : join-of-lts.InvT-loop
 join-of-Inv-loop cells links table t d numbers s depth l b₀ j₀ b j = ((j ≤ l) × OnChain cells l j) × (b ≡ grown b₀ (segmentsText s t (recordBy numbers d) (chainAt cells j)))
@@ -209,38 +210,57 @@ seg-of-frame-at-requires t c κs = let p = c .before .before .before .before .be
     let q : isBare (sourceBy n) x ≡ false = sym (c .before .is-bare .ensures) ∙ c .if1 .left in
     ((p .pre .1 .0 .pool, (omega (arith, p .pre .1 .0 .few), p .pre .1 .0 .row)), (q, omega (arith, p .pre .1 .1 .0 .room)))
 
-seg-of-opened-requires : (t : ℕ) → seg-of-lts.Need-opened-requires (seg-of-calls t) (seg-of-at t) seg-of.Post
-seg-of-opened-requires t c κs = let p = c .before .before .before .before .before .before .before .before .before .before in let s = p .args .s in let t₀ = p .args .t .now in let d = p .args .d .now in let n = p .args .numbers .now in let cells = p .args .cells .now in let table = p .args .table .now in let r = recordBy n d in
-    let i = p .args .i in let x = segmentAt cells i in
-    let q : isBare (sourceBy n) x ≡ false = sym (c .before .before .before .is-bare .ensures) ∙ c .before .before .if1 .left in
-    let w = c .before .frame-at .result in let h : Framed s w (rawText s t₀ r x) (segmentText s t₀ r x) = framed-by s t₀ d n x w (rowAt table i) q (p .pre .1 .1 .0 .row i (omega arith)) (c .before .frame-at .ensures) in let fl = framed-length s w (rawText s t₀ r x) (segmentText s t₀ r x) h in
-    ((p .pre .1 .1 .1 .0 .0), omega (arith, p .pre .1 .1 .1 .0 .1))
+seg-of-is-empty-requires : (t : ℕ) → seg-of-lts.Need-is-empty-requires (seg-of-calls t) (seg-of-at t) seg-of.Post
+seg-of-is-empty-requires t c κs = search needs
 
 seg-of-raw-of-requires-2 : (t : ℕ) → seg-of-lts.Need-raw-of-requires-2 (seg-of-calls t) (seg-of-at t) seg-of.Post
 seg-of-raw-of-requires-2 t c κs = let p = c .before .before .before .before .before .before .before .before .before .before .before in let s = p .args .s in let t₀ = p .args .t .now in let d = p .args .d .now in let n = p .args .numbers .now in let cells = p .args .cells .now in let table = p .args .table .now in let r = recordBy n d in
     let i = p .args .i in let a = p .args .a in let x = segmentAt cells i in
     let q : isBare (sourceBy n) x ≡ false = sym (c .before .before .before .before .is-bare .ensures) ∙ c .before .before .before .if1 .left in
-    let w = c .before .before .frame-at .result in let h : Framed s w (rawText s t₀ r x) (segmentText s t₀ r x) = framed-by s t₀ d n x w (rowAt table i) q (p .pre .1 .1 .0 .row i (omega arith)) (c .before .before .frame-at .ensures) in let fl = framed-length s w (rawText s t₀ r x) (segmentText s t₀ r x) h in
+    let w = c .before .before .frame-at .result in let h : Framed s w (rawText s t₀ r x) (segmentText s t₀ r x) = framed-by s t₀ d n x w (rowAt table i) q (p .pre .1 .1 .0 .row i (omega arith)) (c .before .before .frame-at .ensures) in
+    let e = framed-none s w (rawText s t₀ r x) (segmentText s t₀ r x) h (sym (c .before .is-empty .ensures) ∙ c .if2 .taken) in
+    (omega (arith, p .pre .0), ((p .pre .1 .0), (tabled-less s t₀ r cells table (i + 1) i (omega arith) (p .pre .1 .1 .0), (((p .pre .1 .1 .1 .0 .0), omega (arith, p .pre .1 .1 .1 .0 .1, ap length e)), (p .pre .1 .1 .1 .1 .0, forward-less cells (p .args .links .now) (i + 1) i (omega arith) (p .pre .1 .1 .1 .1 .1))))))
+
+seg-of-returns-2 : (t : ℕ) → seg-of-lts.Need-returns-2 (seg-of-calls t) (seg-of-at t) seg-of.Post
+seg-of-returns-2 t c = let p = c .before .before .before .before .before .before .before .before .before .before .before .before in let s = p .args .s in let t₀ = p .args .t .now in let d = p .args .d .now in let n = p .args .numbers .now in let cells = p .args .cells .now in let table = p .args .table .now in let r = recordBy n d in
+    let i = p .args .i in let a = p .args .a in let x = segmentAt cells i in
+    let q : isBare (sourceBy n) x ≡ false = sym (c .before .before .before .before .before .is-bare .ensures) ∙ c .before .before .before .before .if1 .left in
+    let w = c .before .before .before .frame-at .result in let h : Framed s w (rawText s t₀ r x) (segmentText s t₀ r x) = framed-by s t₀ d n x w (rowAt table i) q (p .pre .1 .1 .0 .row i (omega arith)) (c .before .before .before .frame-at .ensures) in
+    let e = framed-none s w (rawText s t₀ r x) (segmentText s t₀ r x) h (sym (c .before .before .is-empty .ensures) ∙ c .before .if2 .taken) in
+    c .raw-of2 .ensures ∙ ap (grown a) (sym e)
+
+seg-of-opened-requires : (t : ℕ) → seg-of-lts.Need-opened-requires (seg-of-calls t) (seg-of-at t) seg-of.Post
+seg-of-opened-requires t c κs = let p = c .before .before .before .before .before .before .before .before .before .before .before .before in let s = p .args .s in let t₀ = p .args .t .now in let d = p .args .d .now in let n = p .args .numbers .now in let cells = p .args .cells .now in let table = p .args .table .now in let r = recordBy n d in
+    let i = p .args .i in let x = segmentAt cells i in
+    let q : isBare (sourceBy n) x ≡ false = sym (c .before .before .before .before .before .is-bare .ensures) ∙ c .before .before .before .before .if1 .left in
+    let w = c .before .before .before .frame-at .result in let h : Framed s w (rawText s t₀ r x) (segmentText s t₀ r x) = framed-by s t₀ d n x w (rowAt table i) q (p .pre .1 .1 .0 .row i (omega arith)) (c .before .before .before .frame-at .ensures) in let fl = framed-length s w (rawText s t₀ r x) (segmentText s t₀ r x) h in
+    ((p .pre .1 .1 .1 .0 .0), omega (arith, p .pre .1 .1 .1 .0 .1))
+
+seg-of-raw-of-requires-3 : (t : ℕ) → seg-of-lts.Need-raw-of-requires-3 (seg-of-calls t) (seg-of-at t) seg-of.Post
+seg-of-raw-of-requires-3 t c κs = let p = c .before .before .before .before .before .before .before .before .before .before .before .before .before in let s = p .args .s in let t₀ = p .args .t .now in let d = p .args .d .now in let n = p .args .numbers .now in let cells = p .args .cells .now in let table = p .args .table .now in let r = recordBy n d in
+    let i = p .args .i in let a = p .args .a in let x = segmentAt cells i in
+    let q : isBare (sourceBy n) x ≡ false = sym (c .before .before .before .before .before .before .is-bare .ensures) ∙ c .before .before .before .before .before .if1 .left in
+    let w = c .before .before .before .before .frame-at .result in let h : Framed s w (rawText s t₀ r x) (segmentText s t₀ r x) = framed-by s t₀ d n x w (rowAt table i) q (p .pre .1 .1 .0 .row i (omega arith)) (c .before .before .before .before .frame-at .ensures) in let fl = framed-length s w (rawText s t₀ r x) (segmentText s t₀ r x) h in
     let o = opening s (w .format) ++ replicate (w .left) (padByte (w .format .padding)) in let ol = open-length s w (rawText s t₀ r x) (segmentText s t₀ r x) h in
     let be : c .opened .result ≡ grown a o = c .opened .ensures in let sb : Small (c .opened .result) = subst Small (sym be) (small-grown a o (p .pre .1 .1 .1 .0 .0)) in let bl = ap (λ (y : Measure). y .len) be in
     (omega (arith, p .pre .0), ((p .pre .1 .0), (tabled-less s t₀ r cells table (i + 1) i (omega arith) (p .pre .1 .1 .0), ((sb, omega (arith, p .pre .1 .1 .1 .0 .1)), (p .pre .1 .1 .1 .1 .0, forward-less cells (p .args .links .now) (i + 1) i (omega arith) (p .pre .1 .1 .1 .1 .1))))))
 
 seg-of-closed-requires : (t : ℕ) → seg-of-lts.Need-closed-requires (seg-of-calls t) (seg-of-at t) seg-of.Post
-seg-of-closed-requires t c κs = let p = c .before .before .before .before .before .before .before .before .before .before .before .before in let s = p .args .s in let t₀ = p .args .t .now in let d = p .args .d .now in let n = p .args .numbers .now in let cells = p .args .cells .now in let table = p .args .table .now in let r = recordBy n d in
+seg-of-closed-requires t c κs = let p = c .before .before .before .before .before .before .before .before .before .before .before .before .before .before in let s = p .args .s in let t₀ = p .args .t .now in let d = p .args .d .now in let n = p .args .numbers .now in let cells = p .args .cells .now in let table = p .args .table .now in let r = recordBy n d in
     let i = p .args .i in let a = p .args .a in let x = segmentAt cells i in
-    let q : isBare (sourceBy n) x ≡ false = sym (c .before .before .before .before .before .is-bare .ensures) ∙ c .before .before .before .before .if1 .left in
-    let w = c .before .before .before .frame-at .result in let h : Framed s w (rawText s t₀ r x) (segmentText s t₀ r x) = framed-by s t₀ d n x w (rowAt table i) q (p .pre .1 .1 .0 .row i (omega arith)) (c .before .before .before .frame-at .ensures) in let fl = framed-length s w (rawText s t₀ r x) (segmentText s t₀ r x) h in
+    let q : isBare (sourceBy n) x ≡ false = sym (c .before .before .before .before .before .before .before .is-bare .ensures) ∙ c .before .before .before .before .before .before .if1 .left in
+    let w = c .before .before .before .before .before .frame-at .result in let h : Framed s w (rawText s t₀ r x) (segmentText s t₀ r x) = framed-by s t₀ d n x w (rowAt table i) q (p .pre .1 .1 .0 .row i (omega arith)) (c .before .before .before .before .before .frame-at .ensures) in let fl = framed-length s w (rawText s t₀ r x) (segmentText s t₀ r x) h in
     let o = opening s (w .format) ++ replicate (w .left) (padByte (w .format .padding)) in let ol = open-length s w (rawText s t₀ r x) (segmentText s t₀ r x) h in
     let be : c .before .opened .result ≡ grown a o = c .before .opened .ensures in let sb : Small (c .before .opened .result) = subst Small (sym be) (small-grown a o (p .pre .1 .1 .1 .0 .0)) in let bl = ap (λ (y : Measure). y .len) be in
-    let ce : c .raw-of2 .result ≡ grown (c .before .opened .result) (rawText s t₀ r x) = c .raw-of2 .ensures in let cl = ap (λ (y : Measure). y .len) ce in
+    let ce : c .raw-of3 .result ≡ grown (c .before .opened .result) (rawText s t₀ r x) = c .raw-of3 .ensures in let cl = ap (λ (y : Measure). y .len) ce in
     (subst Small (sym ce) (small-grown (c .before .opened .result) (rawText s t₀ r x) sb), omega (arith, p .pre .1 .1 .1 .0 .1))
 
-seg-of-returns-2 : (t : ℕ) → seg-of-lts.Need-returns-2 (seg-of-calls t) (seg-of-at t) seg-of.Post
-seg-of-returns-2 t c = let p = c .before .before .before .before .before .before .before .before .before .before .before .before .before in let s = p .args .s in let t₀ = p .args .t .now in let d = p .args .d .now in let n = p .args .numbers .now in let cells = p .args .cells .now in let table = p .args .table .now in let r = recordBy n d in
+seg-of-returns-3 : (t : ℕ) → seg-of-lts.Need-returns-3 (seg-of-calls t) (seg-of-at t) seg-of.Post
+seg-of-returns-3 t c = let p = c .before .before .before .before .before .before .before .before .before .before .before .before .before .before .before in let s = p .args .s in let t₀ = p .args .t .now in let d = p .args .d .now in let n = p .args .numbers .now in let cells = p .args .cells .now in let table = p .args .table .now in let r = recordBy n d in
     let i = p .args .i in let a = p .args .a in let x = segmentAt cells i in
-    let q : isBare (sourceBy n) x ≡ false = sym (c .before .before .before .before .before .before .is-bare .ensures) ∙ c .before .before .before .before .before .if1 .left in
-    let w = c .before .before .before .before .frame-at .result in let h : Framed s w (rawText s t₀ r x) (segmentText s t₀ r x) = framed-by s t₀ d n x w (rowAt table i) q (p .pre .1 .1 .0 .row i (omega arith)) (c .before .before .before .before .frame-at .ensures) in let fl = framed-length s w (rawText s t₀ r x) (segmentText s t₀ r x) h in
-    c .closed .ensures ∙ frame-walked s w (rawText s t₀ r x) (segmentText s t₀ r x) h a (c .before .before .opened .result) (c .before .raw-of2 .result) (c .before .before .opened .ensures) (c .before .raw-of2 .ensures)
+    let q : isBare (sourceBy n) x ≡ false = sym (c .before .before .before .before .before .before .before .before .is-bare .ensures) ∙ c .before .before .before .before .before .before .before .if1 .left in
+    let w = c .before .before .before .before .before .before .frame-at .result in let h : Framed s w (rawText s t₀ r x) (segmentText s t₀ r x) = framed-by s t₀ d n x w (rowAt table i) q (p .pre .1 .1 .0 .row i (omega arith)) (c .before .before .before .before .before .before .frame-at .ensures) in let fl = framed-length s w (rawText s t₀ r x) (segmentText s t₀ r x) h in
+    c .closed .ensures ∙ frame-walked s w (rawText s t₀ r x) (segmentText s t₀ r x) h a (c .before .before .opened .result) (c .before .raw-of3 .result) (c .before .before .opened .ensures) (c .before .raw-of3 .ensures)
 
 pub +join-of+raw-of+seg-of-spec : {M : Type 1} → statement M
 +join-of+raw-of+seg-of-spec = close μ-join-of μ-raw-of μ-seg-of (λ t. join-of-lts.spec (join-of-calls t) (join-of-at t) join-of.Post
@@ -271,7 +291,10 @@ pub +join-of+raw-of+seg-of-spec : {M : Type 1} → statement M
     (seg-of-raw-of-requires t)
     (seg-of-returns t)
     (seg-of-frame-at-requires t)
-    (seg-of-opened-requires t)
+    (seg-of-is-empty-requires t)
     (seg-of-raw-of-requires-2 t)
-    (seg-of-closed-requires t)
     (seg-of-returns-2 t)
+    (seg-of-opened-requires t)
+    (seg-of-raw-of-requires-3 t)
+    (seg-of-closed-requires t)
+    (seg-of-returns-3 t)
