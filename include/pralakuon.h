@@ -14,7 +14,7 @@
  *   function is called: nothing is allocated, read, written, locked or aborted.
  * - A 64-bit little-endian processor, with its vector registers switched on (SSE2 on x86-64, NEON on aarch64). There is
  *   no archive for 32 bits.
- * - Stack: an entry was measured to take less than 14 KiB, on x86-64 (docs/SPEED.md). That is measured,
+ * - Stack: an entry was measured to take less than 15 KiB, on x86-64 (docs/SPEED.md). That is measured,
  *   not proved: give a thread that calls it 16 KiB more than it needs itself.
  * - No data but constants: it can stand in read-only memory, nothing has to be set up, and it runs at any address.
  * - Alignment: none, every pointer may be odd. So words are read at odd addresses: on aarch64 without an operating
@@ -127,7 +127,7 @@ enum pralakuon_style {
 /* The version of this header. A caller made for MAJOR.MINOR works with every archive of the same MAJOR.MINOR. */
 #define PRALAKUON_VERSION_MAJOR 0
 #define PRALAKUON_VERSION_MINOR 6
-#define PRALAKUON_VERSION_PATCH 0
+#define PRALAKUON_VERSION_PATCH 1
 #define PRALAKUON_VERSION (65536 * PRALAKUON_VERSION_MAJOR + 256 * PRALAKUON_VERSION_MINOR + PRALAKUON_VERSION_PATCH)
 
 /* The refusal in an answer, or 0, and the value in it: a length, or the place with refusal 17, which is the number of
@@ -139,7 +139,13 @@ static inline uint64_t pralakuon_place_of(uint64_t answer) { return answer >> 8;
 /* The line of one record. `record` is laid out as in a session sheet: source byte, level byte, mask of what is present,
  * u32 line, u16 lengths of file, module, timestamp, message, then those texts, all numbers little-endian. By settings with
  * PRALAKUON_HEADS the u16 length of the head's serial follows the four lengths, and the serial follows the four texts. What
- * is absent is 0 or empty. pralakuon_record.h lays records out. */
+ * is absent is 0 or empty. pralakuon_record.h lays records out.
+ *
+ * A line may hold newlines: those of its texts, and those of a comparison report. That is a device's message, of a print
+ * too, of more than two lines whose last two are ` left: `..`` and `right: `..``, as the firmware sends it when a self-test
+ * fails. It is laid out: the lines before, bold; `diff < left / right >`; the left value in red behind `<` and the right one
+ * in green behind `>`, each on a line of its own and with what is not shared bold. A width, style or colour of {s} does not
+ * apply to it, those of a group around it do. */
 uint64_t pralakuon_line(const uint8_t *template_, size_t template_len, uint8_t settings, const uint8_t *record,
                         size_t record_len, uint8_t *out, size_t out_len);
 

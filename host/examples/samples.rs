@@ -1,5 +1,6 @@
 //! Makes samples/: a wall scan as a session sheet in each of the three modes, one of a French crew, one of two heads, one
-//! of sites with Japanese names, one whose template is refused, and what is printed of them. host/samples runs it.
+//! of sites with Japanese names, one of self-tests that failed, one whose template is refused, and what is printed of
+//! them. host/samples runs it.
 
 use pralakuon::{session, HostRecord, Level, Record, Settings, SheetWriter};
 use std::error::Error;
@@ -19,6 +20,9 @@ const HEADS: &str = "{t:>12} {d:>6} {[{L}]%bold%<9}|{{s}%>24}|";
 /// The site stands in a column of its own, which is the crate of a record here. By the places rule twelve places are the six
 /// wide characters of the longest name.
 const PLACES: &str = "{t:>12} {[{L}]%bold%<9}|{c:12}|{{s}%>16}|";
+
+/// The message stands last: where it is a comparison report, it has several lines.
+const SELF_TEST: &str = "{t:>12} {[{L}]%bold%<9}|{s}";
 
 /// As a technician mistyped it: the `%` ends the template, and the time is dropped with all that follows.
 const MISTYPED: &str = "{s} %{t}";
@@ -41,7 +45,8 @@ fn main() -> Result<(), Box<dyn Error>> {
     leave("strict", scan(Settings::PLAIN.with_strict(true), MISTYPED)?)?;
     leave("mur", french_scan()?)?;
     leave("wall-heads", scan_of_two_heads()?)?;
-    leave("wall-places", scan_of_japanese_sites()?)
+    leave("wall-places", scan_of_japanese_sites()?)?;
+    leave("self-test", failed_self_tests()?)
 }
 
 /// The scan: the device's readings, a print, and a word of the tablet itself.
@@ -105,6 +110,22 @@ fn scan_of_two_heads() -> Result<Vec<u8>, Box<dyn Error>> {
     sheet.push(&tablet)?;
     sheet.push(&crack("", "10.005000", "wall B3 crack 0.391 mm"))?;
     sheet.push(&Record::print("scan of wall B3 ends").with_head("H-07"))?;
+    Ok(sheet.finish())
+}
+
+/// Self-tests of a head, in colour as the crew sees them: three that failed, one of them reported by a print and one with
+/// two lines above its values; and a word of the tablet itself.
+fn failed_self_tests() -> Result<Vec<u8>, Box<dyn Error>> {
+    let test = |level, timestamp, message| Record::new(level, message).with_timestamp(timestamp);
+    let gauge = "the gauge's self-test failed\n left: `1.25 mm`\nright: `1.5 mm`";
+    let trolley = "self-test of the trolley failed, wheel 2\n left: `1024 steps`\nright: `1000 steps`";
+    let lamp = "self-test of the lamp failed,\nthe head does not scan\n left: `été`\nright: `étés`";
+    let mut sheet = SheetWriter::new(Settings::STRAIGHT_COLOUR, SELF_TEST.as_bytes())?;
+    sheet.push(&test(Level::Info, "9.987500", "self-test begins"))?;
+    sheet.push(&test(Level::Error, "9.990000", gauge))?;
+    sheet.push(&Record::print(trolley))?;
+    sheet.push(&test(Level::Error, "9.992500", lamp))?;
+    sheet.push(&HostRecord::new(Level::Warn, "scan put off"))?;
     Ok(sheet.finish())
 }
 

@@ -86,6 +86,25 @@
 //! # Ok::<(), pralakuon::Refusal>(())
 //! ```
 //!
+//! # Comparison reports
+//!
+//! When a self-test on the head fails, its firmware sends a message of more than two lines, of which the last two hold
+//! two values. Such a message of a device's record, or of a print, is laid out. In colour the left value is red and the
+//! right one green, and what they don't share is bold. A width, style or colour of `{s}` doesn't apply to it; those of a
+//! group around it do. Without its colour a line in straight colour is the plain line then, too. That a specifier fills its
+//! width is not promised of a `{s}` that is laid out.
+//!
+//! ```
+//! use pralakuon::{Formatter, FormatterConfig, Level, Record};
+//!
+//! let formatter = Formatter::new(FormatterConfig::custom("[{L}] {s}"))?;
+//! let record = Record::new(Level::Error, "self-test failed\n left: `1.25 mm`\nright: `1.5 mm`");
+//! assert_eq!(formatter.format(&record)?, "[ERROR] self-test failed\ndiff < left / right >\n<1.25 mm\n>1.5 mm");
+//! # Ok::<(), pralakuon::Refusal>(())
+//! ```
+//!
+//! So a line may hold newlines. The host's own messages are never laid out.
+//!
 //! # Session sheets
 //!
 //! A sheet holds a template and records, so that the same lines can be made of them years later. [`SheetWriter`] writes

@@ -51,7 +51,7 @@ macro_rules! shared_builders {
 /// let record = Record::new(Level::Warn, "slow").with_file("/head/src/gauge.rs").with_line(118);
 /// assert_eq!(formatter.format(&record)?, "WARN  gauge.rs:118 slow");
 /// assert_eq!(formatter.format(&record.with_file(None).with_line(None))?, "WARN  <file>:0 slow");
-/// // A print has no level, and its line is the message alone.
+/// // A print has no level, and its line is the message alone, laid out if it is a comparison report.
 /// assert_eq!(formatter.format(&Record::print("scan ends"))?, "scan ends");
 /// # Ok::<(), pralakuon::Refusal>(())
 /// ```
@@ -68,7 +68,8 @@ pub struct Record<'a> {
     pub module_path: Option<&'a str>,
     /// When it happened: `{t}`. Empty where it is not known.
     pub timestamp: &'a str,
-    /// What happened: `{s}`.
+    /// What happened: `{s}`. A comparison report, as firmware sends it when a self-test fails, is laid out (see the
+    /// [overview](crate#comparison-reports)).
     pub message: &'a str,
     /// The serial of the head that measured it: `{d}`.
     pub head: Option<&'a str>,
@@ -132,7 +133,8 @@ pub struct HostRecord<'a> {
     pub line: Option<u32>,
     /// The module: `{m}`, and `{c}` for its crate.
     pub module_path: Option<&'a str>,
-    /// What happened: `{s}`.
+    /// What happened: `{s}`, which shows it as it is, whatever it says: without width, style or colour, and never laid
+    /// out.
     pub message: &'a str,
     /// The serial of the head that it is about: `{d}`.
     pub head: Option<&'a str>,

@@ -168,7 +168,7 @@ fn sheet_of_edges(heads: bool) -> Vec<u8> {
 fn the_pair_writes_what_the_crate_writes() {
     let program = in_c("pair");
     let sample = |name: &str| fs::read(host("../samples").join(name)).unwrap();
-    let samples = ["wall", "wall-crate", "wall-straight", "mur", "strict", "wall-heads", "wall-places"];
+    let samples = ["wall", "wall-crate", "wall-straight", "mur", "strict", "wall-heads", "wall-places", "self-test"];
     let samples = samples.map(|name| sample(&format!("{name}.sheet")));
     for sheet in samples.into_iter().chain([sheet_of_edges(false), sheet_of_edges(true)]) {
         assert!(run_with(Command::new(&program).arg("copy"), &sheet) == sheet);

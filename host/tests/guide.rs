@@ -1,4 +1,5 @@
-//! The examples of docs/GUIDE.md: each is run, and prints what the guide says; its code is code that is run.
+//! The examples of docs/GUIDE.md: each is run, and prints what the guide says; its code is code that is run. A block of
+//! `lines` has examples of one line each, one of `message` the record of the `printed` ones after it.
 
 use pralakuon::{entries, point_at, Formatter, FormatterConfig, Level, Record, Refusal};
 
@@ -83,35 +84,63 @@ fn answered(told: &Told, template: &[u8]) -> Vec<u8> {
     }
 }
 
+/// What is wrong with an example: its template, as the guide spells it, prints something else than expected.
+fn wrong(told: &Told, template: &str, expected: &str) -> Option<String> {
+    let line = answered(told, &spelled(template.trim_end()));
+    (line != spelled(expected)).then(|| format!("prints {:?}", String::from_utf8_lossy(&line)))
+}
+
+/// A message of several lines: the first line of its block says what the record is besides.
+fn told_in_lines(block: &[&str]) -> Told {
+    let (said, message) = block.split_first().expect("a record");
+    let mut told = told(said.strip_prefix("# ").expect("# KEY=VALUE"));
+    told.texts[3] = Some(message.join("\n").into_bytes());
+    told
+}
+
 #[test]
 fn every_example_prints_what_the_guide_says() {
     let mut record = told("level=INFO message=hello");
-    let mut inside = false;
-    let mut count = 0;
-    let mut wrong = Vec::new();
-    for (number, line) in GUIDE.lines().enumerate() {
-        if line.starts_with("```") {
-            inside = line == "```lines";
-            continue;
+    let mut counts = [0; 2];
+    let mut found = Vec::new();
+    let mut lines = GUIDE.lines().enumerate();
+    while let Some((number, line)) = lines.next() {
+        let kind = match line.strip_prefix("```") {
+            Some(kind) => kind,
+            None => continue,
+        };
+        let block: Vec<&str> = lines.by_ref().map(|(_, line)| line).take_while(|line| *line != "```").collect();
+        let mut tried = |record: &Told, at: usize, template: &str, expected: &str| {
+            let wrong = wrong(record, template, expected);
+            found.extend(wrong.map(|wrong| format!("docs/GUIDE.md, line {}: {wrong}", number + at + 2)));
+        };
+        match kind {
+            "lines" => {
+                for (at, line) in block.into_iter().enumerate() {
+                    if let Some(said) = line.strip_prefix("# ") {
+                        record = told(said);
+                        continue;
+                    }
+                    let (template, expected) = line.split_once("=>  ").expect("TEMPLATE => LINE");
+                    tried(&record, at, template, expected);
+                    counts[0] += 1;
+                }
+            }
+            "message" => record = told_in_lines(&block),
+            // The settings hold for this block alone.
+            "printed" => {
+                let settings = block[0].strip_prefix("# settings=").map(|said| said.parse().expect("a number"));
+                let at = usize::from(settings.is_some());
+                record.settings = settings.unwrap_or(0);
+                let template = block[at].strip_suffix("=>").expect("TEMPLATE =>");
+                tried(&record, at, template, &block[at + 1..].join("\n"));
+                counts[1] += 1;
+            }
+            _ => {}
         }
-        if !inside {
-            continue;
-        }
-        if let Some(said) = line.strip_prefix("# ") {
-            record = told(said);
-            continue;
-        }
-        let (template, expected) = line.split_once("=>  ").expect("TEMPLATE => LINE");
-        let template = spelled(template.trim_end());
-        let line = answered(&record, &template);
-        let (line, expected) = (String::from_utf8_lossy(&line).into_owned(), spelled(expected));
-        if line != String::from_utf8_lossy(&expected) {
-            wrong.push(format!("docs/GUIDE.md, line {}: prints {line:?}", number + 1));
-        }
-        count += 1;
     }
-    assert!(wrong.is_empty(), "{}", wrong.join("\n"));
-    assert!(count > 50, "only {count} examples were found");
+    assert!(found.is_empty(), "{}", found.join("\n"));
+    assert!(counts[0] > 50 && counts[1] > 4, "only {counts:?} examples were found");
 }
 
 /// The lines of the guide's code in a language, without the space before them.

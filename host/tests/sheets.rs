@@ -24,7 +24,7 @@ const EXAMPLE_WITH_HEADS: &[u8] = b"\x04\0\
     \x01\0\0\0\0\0\0\0\0\0\0\0\0\0\0\0\0";
 
 /// Those that have lines.
-const SAMPLES: [&str; 6] = ["wall", "wall-crate", "wall-straight", "mur", "wall-heads", "wall-places"];
+const SAMPLES: [&str; 7] = ["wall", "wall-crate", "wall-straight", "mur", "wall-heads", "wall-places", "self-test"];
 
 /// The reader and the archive say alike whether this is a sheet.
 fn judged_alike(bytes: &[u8]) -> bool {

@@ -8,6 +8,7 @@ mod lent;
 mod listed;
 mod make;
 mod places;
+mod reports;
 mod ruled;
 
 use crate::judge;
@@ -67,6 +68,11 @@ pub fn run_wide() -> bool {
 /// The same over cases of chance in which padding meets wide characters.
 pub fn run_places(count: u64, seed: u64) -> bool {
     run_over(count, |index| make::places_case(seed, index))
+}
+
+/// The same over cases of chance with comparison reports, and what is nearly one.
+pub fn run_reports(count: u64, seed: u64) -> bool {
+    run_over(count, |index| make::report_case(seed, index))
 }
 
 fn run_over(count: u64, case: impl Fn(u64) -> (usize, Case) + Sync) -> bool {

@@ -151,6 +151,10 @@ impl Answer {
 }
 
 impl Shown {
+    pub fn is(&self, line: &str) -> bool {
+        matches!(self, Shown::Line(bytes) if bytes == line.as_bytes())
+    }
+
     fn put(&self, payload: &mut Vec<u8>) {
         match self {
             Shown::Impossible(number) => payload.push(*number),
@@ -185,7 +189,7 @@ impl fmt::Debug for Shown {
 thread_local!(static QUIET: Cell<bool> = const { Cell::new(false) });
 
 /// Runs the crate; None when it panics. Its panics are answers here and say nothing, ours still do.
-fn quietly<T>(run: impl FnOnce() -> T) -> Option<T> {
+pub(crate) fn quietly<T>(run: impl FnOnce() -> T) -> Option<T> {
     static HOOK: Once = Once::new();
     HOOK.call_once(|| {
         let loud = panic::take_hook();

@@ -13,6 +13,7 @@ pub mod meaning;
 #[cfg(all(test, feature = "port"))]
 mod migration;
 mod places;
+mod reports;
 pub mod ruling;
 pub mod sample;
 pub mod sheet;

@@ -5,16 +5,19 @@ mod counts;
 mod heads;
 mod letters;
 mod limits;
+mod messages;
 mod places;
 pub(crate) mod random;
+mod reports;
 mod strict;
 
 use crate::head;
 use crate::judge::{self, Answer, Shown};
 use crate::kelvin;
 use crate::places::{answered, asked};
+use crate::reports::{borne_out, panics, Borne};
 use crate::ruling::{self, Names};
-use crate::sheet::{Record, Sheet, COLOUR, DEVICE, STRAIGHT};
+use crate::sheet::{Record, Sheet, COLOUR, PLACES, STRAIGHT};
 use crate::VERSIONS;
 use cases::Case;
 use std::io;
@@ -35,7 +38,7 @@ pub fn run(file: &str, seed: u64) -> io::Result<()> {
         let answer = answer(&case.sheet);
         check(case, &answer);
         let (sheet, output) = (case.sheet.write(), answer.printed());
-        counts.add(case, &answer);
+        counts.add(case, &answer, is_ruled(&case.sheet));
         list.push(case.number);
         for part in [sheet, output] {
             list.extend((part.len() as u32).to_le_bytes());
@@ -48,15 +51,13 @@ pub fn run(file: &str, seed: u64) -> io::Result<()> {
     Ok(())
 }
 
-/// The crate's answer. A sheet that is not laid out isn't put to it. Straight mode is the port's own: where a prefix may be
-/// inserted, the lines are ruled.
+/// The crate's answer. A sheet that is not laid out isn't put to it.
 fn answer(sheet: &Sheet) -> Answer {
     if Sheet::read(&sheet.write()).is_none() {
         return Answer::Refused(15);
     }
-    let straight = COLOUR | STRAIGHT;
     match ruling::template(&sheet.template, Names::All) {
-        Ok(reading) if sheet.settings & straight == straight => {
+        Ok(reading) if is_ruled(sheet) => {
             let line = |record| Shown::Line(ruling::line(&reading.segments, record, sheet.settings).text.into_bytes());
             Answer::Read(sheet.records.iter().map(line).collect())
         }
@@ -65,6 +66,36 @@ fn answer(sheet: &Sheet) -> Answer {
             answered(sheet, judge::answer_alone(&asked(&by_the_crates_names)))
         }
     }
+}
+
+/// Straight mode is the port's own: where a prefix may be inserted, the lines of a template that is read are ruled. So are
+/// comparison reports that the crate shows otherwise for a listed reason.
+fn is_ruled(sheet: &Sheet) -> bool {
+    let straight = COLOUR | STRAIGHT;
+    let read = ruling::template(&sheet.template, Names::All).is_ok();
+    read && (sheet.settings & straight == straight || is_shown_otherwise(sheet))
+}
+
+/// Whether the crate shows a comparison report of the sheet in other runs, with characters lost, or panics on it or on a bare
+/// mark; and every other record as it is ruled.
+fn is_shown_otherwise(sheet: &Sheet) -> bool {
+    if !sheet.records.iter().all(|record| ruling::record(record, sheet.layout()).is_none()) {
+        return false;
+    }
+    let Some(sheet) = head::asked(sheet).map(|sheet| asked(&sheet)) else { return false };
+    let (Ok(reading), Answer::Read(lines)) =
+        (ruling::template(&sheet.template, Names::Crates), judge::answer_alone(&sheet))
+    else {
+        return false;
+    };
+    let borne = |(record, shown): (&Record, &Shown)| {
+        let settings = sheet.settings & !PLACES;
+        let line = ruling::line(&reading.segments, record, settings);
+        let panics = *shown == Shown::Panic && panics(record).is_some();
+        borne_out(shown, &reading.segments, record, settings, &line).or(panics.then_some(Borne::Lost))
+    };
+    let all: Option<Vec<Borne>> = sheet.records.iter().zip(&lines).map(borne).collect();
+    all.map_or(false, |all| all.iter().any(|borne| *borne != Borne::Same))
 }
 
 fn header(seed: u64, count: usize) -> String {
@@ -78,12 +109,13 @@ Output: what the port's program prints for the sheet if its lines are the crate'
 `! 4` and a newline for the sheet; `panic` and a newline where the crate panics; `! 2`, `! 12` and `! 14` where it cannot be asked.
 The crate knows no heads. Where `d` may be tried as a name it is asked with F or m for it, and with the serial as file or module.
 It counts characters. Where the settings byte has bit 16, places, it is asked with every wide character twice, and the output has
-them once. It has no straight mode: where the settings byte has bits 1 and 2, the output is ruled. `! 15`: the sheet is not laid out.
+them once. It has no straight mode: where the settings byte has bits 1 and 2, the output is ruled. So it is where the crate lays out a
+comparison report in other colour runs, loses characters of its values, or panics on it. `! 15`: the sheet is not laid out.
 N 0: the port prints the same.
 N 1, 2, 5 to 9, 11, 12: the port refuses with that number; the output is the crate's, which knows no such limit.
 N 17: the settings byte has bit 4, the strict edition, and the port refuses; the output is the crate's, which knows one edition.
-N 255: another listed difference: a present empty file with {{f}} (the crate panics), a message that its color_diff lays
-out, a width with colour sequences above 65,535 (it panics), a colour word with the Kelvin sign (a k to it).
+N 255: another listed difference: a present empty file with {{f}} (the crate panics), a width with colour sequences above
+65,535 (it panics), a colour word with the Kelvin sign (a k to it).
 
 "
     )
@@ -194,14 +226,7 @@ fn may_have_too_many(text: &str) -> bool {
     dump.matches(';').count() > 64
 }
 
-/// The differences of `LISTED`, but for the two that show as panics.
+/// The difference of `LISTED` that doesn't show as a panic.
 fn is_listed(sheet: &Sheet) -> bool {
-    let kelvin = std::str::from_utf8(&sheet.template).map_or(false, kelvin::decides);
-    kelvin || sheet.records.iter().any(may_be_diff)
-}
-
-/// A host's message is never laid out.
-fn may_be_diff(record: &Record) -> bool {
-    let text = String::from_utf8_lossy(&record.message);
-    record.source == DEVICE && text.lines().count() > 2 && text.contains(" left: `") && text.contains("right: `")
+    std::str::from_utf8(&sheet.template).map_or(false, kelvin::decides)
 }

@@ -27,8 +27,10 @@ use Rattle.record.specs.declared.Level.{Level}
 use Rattle.record.specs.Levels.{levelOf}
 use Rattle.record.specs.Contents.{recordOf}
 use Rattle.checks.proofs.Passing.{passes}
-use Rattle.fields.specs.Lines.{recordShown, lineOf}
-use Rattle.leaves.specs.Places.{placesOf, recordBy, Short}
+use Rattle.record.specs.Records.{Record}
+use Rattle.fields.specs.Worded.{Compares}
+use Rattle.fields.specs.Lines.{printShown, recordShown, lineOf}
+use Rattle.leaves.specs.Places.{rowLength, placesOf, comparedBy, recordBy, Short}
 use Rattle.rows.specs.Texts.{segmentsText}
 use Rattle.rows.specs.Rows.{Writable}
 use Rattle.packing.specs.declared.Answer.{Answer}
@@ -113,13 +115,13 @@ module _ (s : Settings) (t : List ℕ) (c : LogSegments) (l : Laid) (x : Level) 
   unfolding lineOf recordOf
   shown-as y h = ap (λ (z : Level). joined s (recordShown z t (recordOf l) c)) (sym e ∙ h)
 
-  pub line-print : x ≡ Level.Print → lineOf s t c (recordOf l) ≡ l .message
-  unfolding recordOf recordShown joined textOf
-  line-print h = shown-as Level.Print h ∙ append-nil (l .message)
+  pub line-print : x ≡ Level.Print → lineOf s t c (recordOf l) ≡ textOf s (printShown (recordOf l))
+  unfolding recordShown joined
+  line-print h = shown-as Level.Print h ∙ append-nil (textOf s (printShown (recordOf l)))
 
-  pub line-refused : x ≡ Level.Refused → lineOf s t c (recordOf l) ≡ l .message
-  unfolding recordOf recordShown joined textOf
-  line-refused h = shown-as Level.Refused h ∙ append-nil (l .message)
+  pub line-refused : x ≡ Level.Refused → lineOf s t c (recordOf l) ≡ textOf s (printShown (recordOf l))
+  unfolding recordShown joined
+  line-refused h = shown-as Level.Refused h ∙ append-nil (textOf s (printShown (recordOf l)))
 
   pub line-level : (n : Name) (k : Color) → x ≡ Level.Named n k → lineOf s t c (recordOf l) ≡ segmentsText s t (recordOf l) c
   unfolding recordShown
@@ -138,9 +140,21 @@ texts-short form l e =
 
 -- a row of the record's numbers
 module _ (cells t d : List ℕ) (n : ℕ) (p : Places) (numbers : List ℕ) (h : Accepted cells t d n p) (e : placesOf numbers ≡ p) where
-  pub writable : 14 ≤ length numbers → Writable cells t d numbers n
-  writable g = record {
-    readable = record { pool = h .pool; few = h .read .few; row = g; places = rw e (h .places) };
+  pub record-by : recordBy numbers d ≡ recordOf (laidBy p d)
+  unfolding recordBy
+  record-by = rw e
+
+  short : length (recordBy numbers d .message) ≤ 4096
+  unfolding recordOf
+  short = omega (arith, ap (λ (r : Record). length (r .message)) record-by, h .texts .message)
+
+  pub writable : rowLength ≤ length numbers → Compares d p (comparedBy numbers) → Writable cells t d numbers n
+  writable g k = record {
+    readable = record {
+      pool = h .pool;
+      few = h .read .few;
+      lent = record { row = g; places = rw e (h .places); short = short; compared = rw e k };
+    };
     sound = h .read .sound;
     tidy = h .read .tidy;
     few = omega (arith, h .read .counted, h .read .few);
@@ -148,10 +162,6 @@ module _ (cells t d : List ℕ) (n : ℕ) (p : Places) (numbers : List ℕ) (h :
     template = h .template;
     texts = rw e (h .texts);
   }
-
-  pub record-by : recordBy numbers d ≡ recordOf (laidBy p d)
-  unfolding recordBy
-  record-by = rw e
 
 -- ---- answers and buffers by the checks
 

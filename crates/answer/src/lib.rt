@@ -2,6 +2,12 @@
 use checks::Checked;
 use checks::check_record;
 use colour::Settings;
+use comparisons::Compared;
+use comparisons::Spans;
+use comparisons::Value;
+use fields::comparison_of;
+use layouts::layout_len;
+use layouts::put_layout;
 use line::write_line;
 use packing::Answer;
 use packing::answer_in;
@@ -21,15 +27,20 @@ use template::Parsed;
 use template::parse;
 ghost use mathlib.Core.Path.{_≡_};
 ghost use mathlib.Core.Bool.{true};
-ghost use Prim.Native.Nat.{_≤_};
+ghost use Prim.Native.Nat.{_<_, _≤_, _^_};
 ghost use lib.ListN.{length};
 ghost use Rattle.buffer.specs.Bytes.{part};
 ghost use Rattle.segments.specs.Pool.{chainAt};
 ghost use Rattle.template.specs.Parsing.{ReadKeeps};
 ghost use Rattle.record.specs.Layout.{rightSize, laidOut};
-ghost use Rattle.record.specs.Placed.{laidBy};
+ghost use Rattle.record.specs.Placed.{laidBy, PlacesWithin};
 ghost use Rattle.record.specs.Contents.{recordOf};
-ghost use Rattle.fields.specs.Lines.{lineOf};
+ghost use Rattle.colour.specs.Shown.{textOf};
+ghost use Rattle.comparisons.specs.Places.{SpansWithin};
+ghost use Rattle.comparisons.specs.declared.Compared.the-variants.{At};
+ghost use Rattle.fields.specs.Worded.{Compares};
+ghost use Rattle.fields.specs.Lines.{printShown, lineOf};
+ghost use Rattle.layouts.specs.Runs.{laidText};
 ghost use Rattle.buffer.specs.Buffer.{Writes};
 ghost use Rattle.rows.specs.Texts.{segmentsText};
 ghost use Rattle.answer.specs.Answers.{outcome, answerOf, bufferAfter, lineEntry};
@@ -48,7 +59,30 @@ fn put_part(d: &[u8], from: usize, to: usize, out: &mut [u8]) -> usize
     buffer::put(out, 0, &d[from..to])
 }
 
-// The same with the line of a record that has a level.
+// The same with the layout of a comparison.
+fn put_comparison(d: &[u8], from: usize, c: Spans, s: Settings, out: &mut [u8]) -> usize
+    requires { ⌜ SpansWithin from (length (now d)) (At c) × (length (laidText s (now d) from c) < 2 ^ 57) ⌝ }
+    ensures { λ r. ⌜ Writes (now (out .entry)) (now (out .exit)) (laidText s (now (d .entry)) from c) r ⌝ }
+{
+    let len = layout_len(d, from, c, s);
+    if out.len() < len {
+        return len;
+    }
+    put_layout(d, from, c, s, out, 0)
+}
+
+// The same with a message alone, laid out where it is a comparison.
+fn put_message(d: &[u8], p: Places, c: Compared, s: Settings, out: &mut [u8]) -> usize
+    requires { ⌜ Compares (now d) p c × (PlacesWithin (length (now d)) p × (length (recordOf (laidBy p (now d)) .message) ≤ 4096)) ⌝ }
+    ensures { λ r. ⌜ Writes (now (out .entry)) (now (out .exit)) (textOf s (printShown (recordOf (laidBy p (now (d .entry)))))) r ⌝ }
+{
+    match c {
+        Compared::Nothing => put_part(d, p.message_from, p.message_to, out),
+        Compared::At(places) => put_comparison(d, p.message_from, places, s, out),
+    }
+}
+
+// The same with the line of a record that has a level. Behind its numbers stand those of the comparison that its message is, or noughts.
 fn put_segments(
     cells: &[usize],
     n: usize,
@@ -56,12 +90,13 @@ fn put_segments(
     s: Settings,
     d: &[u8],
     p: Places,
+    c: Compared,
     out: &mut [u8],
 ) -> usize
-    requires { ⌜ Accepted (now cells) (now t) (now d) n p ⌝ }
+    requires { ⌜ Accepted (now cells) (now t) (now d) n p × Compares (now d) p c ⌝ }
     ensures { λ r. ⌜ Writes (now (out .entry)) (now (out .exit)) (segmentsText s (now (t .entry)) (recordOf (laidBy p (now (d .entry)))) (chainAt (now (cells .entry)) n)) r ⌝ }
 {
-    let numbers = [
+    let mut numbers = [
         p.source,
         p.level,
         p.mask,
@@ -76,11 +111,34 @@ fn put_segments(
         p.message_to,
         p.serial_from,
         p.serial_to,
+        0,
+        0,
+        0,
+        0,
+        0,
+        0,
+        0,
+        0,
+        0,
     ];
+    if let Compared::At(x) = c {
+        let l = x.left;
+        let r = x.right;
+        numbers[14] = x.head;
+        numbers[15] = l.from;
+        numbers[16] = l.begun;
+        numbers[17] = l.rest;
+        numbers[18] = l.to;
+        numbers[19] = r.from;
+        numbers[20] = r.begun;
+        numbers[21] = r.rest;
+        numbers[22] = r.to;
+    }
     write_line(cells, n, t, d, &numbers, s, out)
 }
 
-// The same with the line of any record that passed its checks, as none with a refused level does: a print without level is its message alone.
+// The same with the line of any record that passed its checks, as none with a refused level does: a print without level is its message alone. Whether
+// the message is a comparison is looked for once, however often it is shown.
 fn put_line(
     cells: &[usize],
     n: usize,
@@ -93,11 +151,12 @@ fn put_line(
     requires { ⌜ Accepted (now cells) (now t) (now d) n p ⌝ }
     ensures { λ r. ⌜ Writes (now (out .entry)) (now (out .exit)) (lineOf s (now (t .entry)) (chainAt (now (cells .entry)) n) (recordOf (laidBy p (now (d .entry))))) r ⌝ }
 {
+    let c = comparison_of(d, p);
     let level = level_of(p.level);
     match level {
-        Level::Print => put_part(d, p.message_from, p.message_to, out),
-        Level::Named(_, _) => put_segments(cells, n, t, s, d, p, out),
-        Level::Refused => put_part(d, p.message_from, p.message_to, out),
+        Level::Print => put_message(d, p, c, s, out),
+        Level::Named(_, _) => put_segments(cells, n, t, s, d, p, c, out),
+        Level::Refused => put_message(d, p, c, s, out),
     }
 }
 

@@ -12,10 +12,12 @@ use Rattle.paths.proofs as paths
 use Rattle.prefix.proofs as prefix
 use Rattle.scanning.proofs as scanning
 use Rattle.measure.proofs as measure
+use Rattle.comparisons.proofs as comparisons
 use Rattle.dress.proofs as dress
 use Rattle.decimal.proofs as decimal
 use Rattle.file_name.proofs as file_name
 use Rattle.wording.proofs as wording
+use Rattle.layouts.proofs as layouts
 use Rattle.leaves.proofs as leaves
 use Rattle.members.proofs as members
 use Rattle.rows.proofs as rows
@@ -139,10 +141,21 @@ pad-byte-settled _ _ _ _ _ _ p q = (same p q, refl)
 before-text-settled : Settled 0 measure.padding.before_text.Kinds.ps measure.padding.before_text.Kinds.r measure.padding.before_text.Reads.Post
 before-text-settled _ _ _ _ _ _ p q = (same (p .0) (q .0), refl)
 
+-- ---- comparisons
+
+add-head-settled : Settled 1 comparisons.head.add_head.Kinds.ps comparisons.head.add_head.Kinds.r comparisons.head.add_head.Reads.Post
+add-head-settled _ _ _ _ _ _ p q = (same p q, refl)
+
+put-head-settled : Settled 2 comparisons.head.put_head.Kinds.ps comparisons.head.put_head.Kinds.r comparisons.head.put_head.Reads.Post
+put-head-settled _ _ _ _ _ _ p q = (same (p .0) (q .0), past (past (past (here (same (p .1) (q .1))))))
+
 -- ---- dress
 
 dress-settled : Settled 1 dress.dress.Kinds.ps dress.dress.Kinds.r dress.dress.Reads.Post
 dress-settled _ _ _ _ _ _ p q = (same (p .0) (q .0), here (same (p .1) (q .1)))
+
+dress-bare-settled : Settled 2 dress.dress_bare.Kinds.ps dress.dress_bare.Kinds.r dress.dress_bare.Reads.Post
+dress-bare-settled _ _ _ _ _ _ p q = (same (p .0) (q .0), here (same (p .1) (q .1)))
 
 -- ---- decimal
 
@@ -177,6 +190,17 @@ wording-len-settled _ _ _ _ _ _ p q = (same p q, refl)
 put-wording-settled : Settled 2 wording.put_wording.Kinds.ps wording.put_wording.Kinds.r wording.put_wording.Reads.Post
 put-wording-settled _ _ _ _ _ _ p q = (same (p .0) (q .0), past (past (here (same (p .1) (q .1)))))
 
+-- ---- layouts
+
+add-layout-settled : Settled 1 layouts.add_layout.Kinds.ps layouts.add_layout.Kinds.r layouts.add_layout.Reads.Post
+add-layout-settled _ _ _ _ _ _ p q = (same p q, refl)
+
+layout-len-settled : Settled 1 layouts.layout_len.Kinds.ps layouts.layout_len.Kinds.r layouts.layout_len.Reads.Post
+layout-len-settled _ _ _ _ _ _ p q = (same p q, refl)
+
+put-layout-settled : Settled 2 layouts.put_layout.Kinds.ps layouts.put_layout.Kinds.r layouts.put_layout.Reads.Post
+put-layout-settled _ _ _ _ _ _ p q = (same (p .0) (q .0), past (past (past (past (here (same (p .1) (q .1)))))))
+
 -- ---- leaves
 
 add-text-settled : Settled 2 leaves.add_text.Kinds.ps leaves.add_text.Kinds.r leaves.add_text.Reads.Post
@@ -195,7 +219,7 @@ field-len-settled : Settled 2 leaves.field_len.Kinds.ps leaves.field_len.Kinds.r
 field-len-settled _ _ _ _ _ _ p q = (same p q, refl)
 
 put-field-settled : Settled 3 leaves.put_field.Kinds.ps leaves.put_field.Kinds.r leaves.put_field.Reads.Post
-put-field-settled _ _ _ _ _ _ p q = (same (p .0) (q .0), past (past (past (here (same (p .1) (q .1))))))
+put-field-settled _ _ _ _ _ _ p q = (same (p .0) (q .0), past (past (past (past (here (same (p .1) (q .1)))))))
 
 -- ---- rows
 

@@ -1,11 +1,10 @@
 -- `HomeDemand` holds. Assumes nothing.
 use Prim.Native.Nat.{ℕ}
 use mathlib.Core.Path.{_≡_, refl, ap, sym, _∙_}
-use mathlib.Core.Bool.{Bool, true, false, _&&_}
+use mathlib.Core.Bool.{Bool, true, false}
 use mathlib.Core.List.{List}
 use mathlib.Core.Logic.{_≢_}
 use Rattle.buffer.specs.Table.{none, some}
-use Rattle.refusals.specs.declared.Refusal.{Refusal}
 use Rattle.words.specs.declared.LogMetadata.{LogMetadata}
 use Rattle.words.specs.declared.LogMetadata.the-variants.{CrateName, FileName, FilePath, LineNumber, Log, LogLevel, ModulePath, Timestamp, HeadSerial}
 use Rattle.words.specs.declared.LogFormat.{LogFormat}
@@ -28,12 +27,13 @@ use Rattle.record.specs.Contents.{recordOf}
 use Rattle.paths.specs.Paths.{fileName, beforeColons}
 use Rattle.fields.specs.Texts.{noCrate, noFile, noModule, noTime, noHead, orPlaceholder, there, decimalText, timeOf, wording}
 use Rattle.formats.specs.Formats.{specifierFormat, groupFormat}
-use Rattle.fields.specs.Lines.{inFormat, messageFrom, specifierShown, segmentShown, segmentsShown, recordShown, lineOf}
+use Rattle.comparisons.specs.Comparisons.{laidOrElse}
+use Rattle.fields.specs.Lines.{inFormat, comparedFrom, messageFrom, specifierShown, segmentShown, segmentsShown, printShown, recordShown, lineOf}
 use Rattle.settings.specs.Bits.{isKnown, settingsOf, editionOf, formOf}
 use Rattle.answer.specs.Answers.{Outcome, inRoom, recordOutcome, byTemplate, outcome, bufferAfter, packed, callOutcome, Meets, lineEntry}
 use Rattle.answer.proofs.Answering.{passed-outcome, unknown-bit, is-call}
 use Rattle.demands.specs.Conditions.{laidIn}
-use Rattle.demands.specs.HomeDemand.{Part, the-file, the-line, the-module, the-timestamp, the-message, the-head, the-level, namedBy, AgreeOn, AgreeIn, AgreeAmong, AgreeAt, UnnamedIn, UnnamedAmong, AgreeBut, Pair, HomeDemand}
+use Rattle.demands.specs.HomeDemand.{Part, the-message, namedBy, AgreeOn, AgreeIn, AgreeAmong, AgreeAt, UnnamedIn, UnnamedAmong, AgreeBut, Pair, HomeDemand}
 use Rattle.demands.proofs.Records.{passes-when}
 
 -- ---- what is shown
@@ -57,7 +57,7 @@ module _ (r r′ : Record) (source : r .source ≡ r′ .source) (level : r .lev
 
   message-same : (x : Source) (f : LogFormat) → AgreeOn the-message r r′ → messageFrom x r f ≡ messageFrom x r′ f
   unfolding messageFrom
-  message-same Defmt f a = format-same Log f a
+  message-same Defmt f a = λ k. laidOrElse (format-same Log f a k) (comparedFrom (source k) (a k))
   message-same Host f a = ap shown.text a
 
   specifier-same : (m : LogMetadata) (f : LogFormat) → AgreeOn (namedBy m) r r′ → specifierShown r m f ≡ specifierShown r′ m f
@@ -85,10 +85,10 @@ module _ (r r′ : Record) (source : r .source ≡ r′ .source) (level : r .lev
     segments-same t (more x s) a = λ k. shown.more (segment-same t x (a .0) k) (segments-same t s (a .1) k)
 
   record-same : (l : Level) (t : List ℕ) (s : LogSegments) → AgreeAt l s r r′ → recordShown l t r s ≡ recordShown l t r′ s
-  unfolding recordShown
-  record-same Print t s a = ap (λ (m : List ℕ). shown.more (shown.text m) shown.none) a
+  unfolding recordShown printShown
+  record-same Print t s a = λ k. shown.more (laidOrElse (shown.text (a k)) (comparedFrom (source k) (a k))) shown.none
   record-same (Named n c) t s a = segments-same t s a
-  record-same Refused t s a = ap (λ (m : List ℕ). shown.more (shown.text m) shown.none) a
+  record-same Refused t s a = λ k. shown.more (laidOrElse (shown.text (a k)) (comparedFrom (source k) (a k))) shown.none
 
   line-same : (settings : Settings) (t : List ℕ) (s : LogSegments) → AgreeAt (r .level) s r r′ → lineOf settings t s r ≡ lineOf settings t s r′
   unfolding lineOf

@@ -16,3 +16,5 @@ pub mod Templates
 pub mod TwoCalls
 pub mod VisibleText
 pub mod Places
+pub mod Frees
+pub mod Layouts

@@ -1,18 +1,18 @@
 -- What is shown of a template and a record without byte 27 holds no byte 27 either. Assumes nothing.
-use Prim.Native.Nat.{ℕ, zero, suc, _+_, _-_, _<_, _/_, _%_}
+use Prim.Native.Nat.{ℕ, zero, suc, _+_, _-_, _/_, _%_}
 use mathlib.Core.Path.{_≡_, refl}
 use mathlib.Core.Bool.{Bool, true, false}
 use mathlib.Core.List.{List, [], _∷_, _++_}
 use native.Mathlib.Omega.{arith}
 use lib.Dec.{eqb, ltb}
-use lib.ListN.{length, drop}
-use borrow.Author.Tests.{ltb-true}
+use lib.ListN.{length}
 use Rattle.buffer.specs.Bytes.{bytes, same}
 use Rattle.buffer.specs.Table.{Maybe, none, some}
 use Rattle.words.specs.declared.LogMetadata.{LogMetadata}
 use Rattle.words.specs.declared.LogMetadata.the-variants.{CrateName, FileName, FilePath, LineNumber, Log, LogLevel, ModulePath, Timestamp, HeadSerial}
 use Rattle.words.specs.declared.LogFormat.{LogFormat}
 use Rattle.colour.specs.Sequences.{esc}
+use Rattle.colour.specs.Shown as shown
 use Rattle.colour.specs.Texts.{Free, Quiet, Quiets}
 use Rattle.colour.proofs.Shows.{free-by-test, free-append}
 use Rattle.segments.specs.Segments.{LogSegment, LogSegments, text, specifier, group}
@@ -27,18 +27,12 @@ use Rattle.record.specs.Records.{Given, absent, given, Record}
 use Rattle.record.specs.Levels.{levelName, nameOf}
 use Rattle.paths.specs.Paths.{before-first, pieces, isDropped, kept, root, startsWithDot, leadingDot, components, lastOf, slashed, joinedBySlash, fileName, after-byte, beforeColons}
 use Rattle.fields.specs.Texts.{noCrate, noFile, noModule, noTime, noHead, orPlaceholder, there, digits, decimalText, notEmpty, timeOf, wording}
-use Rattle.fields.specs.Lines.{inFormat, messageFrom, specifierShown, segmentShown, segmentsShown, recordShown}
+use Rattle.fields.specs.Lines.{inFormat, messageFrom, specifierShown, segmentShown, segmentsShown, printShown, recordShown}
+use Rattle.demands.proofs.Frees.{FreeMaybe, Frees, frees-append, frees-drop}
+use Rattle.demands.proofs.Layouts.{quiet-laid}
 use Rattle.demands.specs.Lines.{FreeGiven, FreeRecord, FreeSegment, FreeSegments}
 
--- ---- texts that may be missing, and lists of texts
-
-abbrev FreeMaybe : Maybe (List ℕ) → Type 0
-FreeMaybe none = Unit {0}
-FreeMaybe (some t) = Free t
-
-abbrev Frees : List (List ℕ) → Type 0
-Frees [] = Unit {0}
-Frees (x ∷ rest) = Free x × Frees rest
+-- ---- texts that may be missing
 
 free-or : (p : List ℕ) → Free p → (m : Maybe (List ℕ)) → FreeMaybe m → Free (orPlaceholder p m)
 unfolding orPlaceholder
@@ -49,15 +43,6 @@ free-there : (f : List ℕ → Maybe (List ℕ)) → ((t : List ℕ) → Free t 
 unfolding there
 free-there f h absent k = tt
 free-there f h (given t) k = h t k
-
-frees-append : (x y : List (List ℕ)) → Frees x → Frees y → Frees (x ++ y)
-frees-append [] y f g = g
-frees-append (a ∷ x) y f g = (f .0, frees-append x y (f .1) g)
-
-frees-drop : (n : ℕ) (x : List (List ℕ)) → Frees x → Frees (drop n x)
-frees-drop zero x f = f
-frees-drop (suc n) [] f = tt
-frees-drop (suc n) (a ∷ x) f = frees-drop n x (f .1)
 
 -- ---- paths
 
@@ -190,7 +175,7 @@ free-wording r f HeadSerial = free-or noHead (free-by-test noHead refl) (there s
 
 quiet-message : (x : Source) (r : Record) → FreeRecord r → (a : LogFormat) → Quiet (messageFrom x r a)
 unfolding messageFrom inFormat
-quiet-message Defmt r f a = free-wording r f Log
+quiet-message Defmt r f a = quiet-laid (inFormat r Log a) (free-wording r f Log) (r .source) (r .message) (f .message)
 quiet-message Host r f a = f .message
 
 quiet-specifier : (r : Record) → FreeRecord r → (m : LogMetadata) (a : LogFormat) → Quiet (specifierShown r m a)
@@ -217,8 +202,12 @@ mutual
   quiet-segments t r f segments.none h = tt
   quiet-segments t r f (segments.more x s) h = (quiet-segment t r f x (h .0), quiet-segments t r f s (h .1))
 
+quiet-print : (r : Record) → FreeRecord r → Quiet (printShown r)
+unfolding printShown
+quiet-print r f = quiet-laid (shown.text (r .message)) (f .message) (r .source) (r .message) (f .message)
+
 pub quiet-record : (l : Level) (t : List ℕ) (r : Record) → FreeRecord r → (s : LogSegments) → FreeSegments t s → Quiets (recordShown l t r s)
 unfolding recordShown
-quiet-record Print t r f s h = (f .message, tt)
+quiet-record Print t r f s h = (quiet-print r f, tt)
 quiet-record (Named n c) t r f s h = quiet-segments t r f s h
-quiet-record Refused t r f s h = (f .message, tt)
+quiet-record Refused t r f s h = (quiet-print r f, tt)

@@ -25,6 +25,7 @@ use Rattle.record.specs.Computing as records
 use Rattle.checks.specs.Computing as checks
 use Rattle.formats.specs.Computing as formats
 use Rattle.paths.specs.Computing as paths
+use Rattle.comparisons.specs.Computing as comparisons
 use Rattle.fields.specs.Computing as fields
 use Rattle.answer.specs.Computing as answer
 use Rattle.colour.specs.Sequences.{visible}
@@ -91,7 +92,7 @@ seen a t d h k l =
 call-premise-needed : ((t d : List ℕ) → SameSeen 3 t d) → ⊥
 unfolding buffer.computes utf8.computes characters.computes points.computes widths.computes runs.computes letters.computes words.computes
     segments.computes parts.computes braces.computes building.computes template.computes
-    colour.computes settings.computes records.computes checks.computes formats.computes paths.computes fields.computes answer.computes
+    colour.computes settings.computes records.computes checks.computes formats.computes paths.computes comparisons.computes fields.computes answer.computes
 call-premise-needed h =
     let t = bytes "{s}" in
     let d = message 3 4 (bytes "\u{1b}[1m") in
@@ -102,7 +103,7 @@ call-premise-needed h =
 call-crate-not-same : ((t d : List ℕ) → SameSeen 1 t d) → ⊥
 unfolding buffer.computes utf8.computes characters.computes points.computes widths.computes runs.computes letters.computes words.computes
     segments.computes parts.computes braces.computes building.computes template.computes
-    colour.computes settings.computes records.computes checks.computes formats.computes paths.computes fields.computes answer.computes
+    colour.computes settings.computes records.computes checks.computes formats.computes paths.computes comparisons.computes fields.computes answer.computes
 call-crate-not-same h =
     let t = bytes "{[{L}]%bold%<9}|{s}" in
     let d = message 1 5 (bytes "hello") in

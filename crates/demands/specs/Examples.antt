@@ -29,6 +29,7 @@ use Rattle.record.specs.Computing as records
 use Rattle.checks.specs.Computing as checks
 use Rattle.formats.specs.Computing as formats
 use Rattle.paths.specs.Computing as paths
+use Rattle.comparisons.specs.Computing as comparisons
 use Rattle.fields.specs.Computing as fields
 use Rattle.answer.specs.Computing as answer
 
@@ -136,7 +137,7 @@ put-as (refuses n) (refused r) = refuses (number r)
 pub said : List Example → List Says
 unfolding buffer.computes utf8.computes characters.computes points.computes widths.computes runs.computes letters.computes words.computes
     segments.computes parts.computes braces.computes building.computes template.computes
-    colour.computes records.computes checks.computes formats.computes paths.computes fields.computes answer.computes
+    colour.computes records.computes checks.computes formats.computes paths.computes comparisons.computes fields.computes answer.computes
 said [] = []
 said (x ∷ rest) = put-as (x .says) (outcome Form.Old Edition.First (x .settings) (x .template) (x .record′) 100) ∷ said rest
 

@@ -24,6 +24,7 @@ use Rattle.record.specs.Computing as records
 use Rattle.checks.specs.Computing as checks
 use Rattle.formats.specs.Computing as formats
 use Rattle.paths.specs.Computing as paths
+use Rattle.comparisons.specs.Computing as comparisons
 use Rattle.fields.specs.Computing as fields
 use Rattle.answer.specs.Computing as answer
 use Rattle.demands.specs.Examples.{Says, prints, refuses, put-as}
@@ -99,30 +100,30 @@ parted =
     ∷ call 0 (old 0) (bytes "{s d}") (prints (bytes "hello"))
     ∷ []
 
--- what the definitions answer, with room enough for each of them
-pub answered : List Call → List Says
+-- what the definitions answer, with so much room for each of them
+unfoldable pub answered : ℕ → List Call → List Says
 unfolding buffer.computes utf8.computes characters.computes points.computes widths.computes runs.computes letters.computes words.computes
     segments.computes parts.computes braces.computes building.computes template.computes
-    colour.computes settings.computes records.computes checks.computes formats.computes paths.computes fields.computes answer.computes
-answered [] = []
-answered (x ∷ rest) = put-as (x .says) (callOutcome (x .settings) (x .template) (x .bytes′) 100) ∷ answered rest
+    colour.computes settings.computes records.computes checks.computes formats.computes paths.computes comparisons.computes fields.computes answer.computes
+answered room [] = []
+answered room (x ∷ rest) = put-as (x .says) (callOutcome (x .settings) (x .template) (x .bytes′) room) ∷ answered room rest
 
 -- what the calls are to answer
-pub owed : List Call → List Says
+unfoldable pub owed : List Call → List Says
 owed [] = []
 owed (x ∷ rest) = x .says ∷ owed rest
 
 -- the definitions answer so: what `{d}` shows
-pub heads-shown : answered shown ≡ owed shown
+pub heads-shown : answered 100 shown ≡ owed shown
 unfolding answered owed put-as
 heads-shown = refl
 
 -- every limit on both sides
-pub heads-bounded : answered bounded ≡ owed bounded
+pub heads-bounded : answered 100 bounded ≡ owed bounded
 unfolding answered owed put-as
 heads-bounded = refl
 
 -- and the ways of parting
-pub heads-parted : answered parted ≡ owed parted
+pub heads-parted : answered 100 parted ≡ owed parted
 unfolding answered owed put-as
 heads-parted = refl

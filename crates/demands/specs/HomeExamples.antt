@@ -35,6 +35,7 @@ use Rattle.record.specs.Computing as records
 use Rattle.checks.specs.Computing as checks
 use Rattle.formats.specs.Computing as formats
 use Rattle.paths.specs.Computing as paths
+use Rattle.comparisons.specs.Computing as comparisons
 use Rattle.fields.specs.Computing as fields
 use Rattle.answer.specs.Computing as answer
 use Rattle.demands.specs.Examples.{Says, prints, refuses, put-as}
@@ -93,7 +94,7 @@ namedPairs =
 pub bothAnswered : List Two → List Says
 unfolding buffer.computes utf8.computes characters.computes points.computes widths.computes runs.computes letters.computes words.computes
     segments.computes parts.computes braces.computes building.computes unused.computes template.computes
-    colour.computes settings.computes records.computes checks.computes formats.computes paths.computes fields.computes answer.computes
+    colour.computes settings.computes records.computes checks.computes formats.computes paths.computes comparisons.computes fields.computes answer.computes
 bothAnswered [] = []
 bothAnswered (x ∷ rest) =
     put-as (x .says) (callOutcome (x .settings) (x .template) (x .first) 100)

@@ -1,5 +1,6 @@
 pub mod Builtins
 pub mod CallDemand3
+pub mod ComparisonExamples
 pub mod Conditions
 pub mod Demand1
 pub mod Demand2

@@ -42,7 +42,8 @@ abbrev mutual
 -- ---- the demand
 
 -- of the line of record r by a template t that was read as s; a print without level and a host's message are shown bare, so `Eachs`
--- says nothing of them
+-- says nothing of them. A comparison is shown as runs without width (document 02, E10): `same` covers it, and what `Eachs` says of its runs
+-- is nothing about widths: "Demand 3's sameness of coloured and plain covers these lines, its sentence on widths doesn't"
 pub record LineDemand3 (settings : Settings) (t : List ℕ) (s : LogSegments) (r : Record) : Type 0 where
   -- "in straight mode the coloured line with its colour sequences taken out once, left to right, is byte for byte the plain line"
   pub same : FreeSegments t s → FreeRecord r → visible (lineOf (straight settings) t s r) ≡ lineOf (plain settings) t s r

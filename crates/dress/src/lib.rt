@@ -16,6 +16,14 @@ ghost use Rattle.colour.specs.Sequences.{reinserted, startsWith};
 ghost use Rattle.colour.specs.Looks.{prefix};
 ghost use Rattle.dress.specs.Around.{around, dressed};
 
+// What stands around a text: its format, the padding on either side, and the bytes inserted into it.
+pub struct Frame {
+    pub format: Format,
+    pub left: usize,
+    pub right: usize,
+    pub inserted: usize,
+}
+
 // The text from i up to e becomes the formatted text at `at`, with padding of l bytes before and r bytes after it; the place after
 // it is returned.
 pub fn dress(out: &mut [u8], at: usize, i: usize, e: usize, f: Format, l: usize, r: usize) -> usize
@@ -43,10 +51,31 @@ fn lay(out: &mut [u8], at: usize, i: usize, e: usize, p: &[u8], z: u8, l: usize,
     put(out, m, &RESET)
 }
 
-// The text from i up to e goes to o, with p inserted after each reset, so that it ends at e. All of the text stands in the buffer, so that
-// the bytes at the place read are compared with the reset. Where the place written has reached the place read nothing is left to insert,
-// and the rest stands where it must: a text without a reset is not touched at all.
+// The same for a prefix p and without padding.
+pub fn dress_bare(out: &mut [u8], at: usize, i: usize, e: usize, p: &[u8]) -> usize
+    requires { ⌜ (i ≤ e) × (at + (length (now p) + (0 + length (reinserted (now p) (part i e (now out))))) ≡ e) ⌝ }
+    requires { ⌜ e + (0 + 4) ≤ length (now out) ⌝ }
+    ensures { λ n. ⌜ (n ≡ e + (0 + 4)) × (now (out .exit) ≡ putAt (now (out .entry)) at (around (now (p .entry)) 0 (reinserted (now (p .entry)) (part i e (now (out .entry)))) 0 0)) ⌝ }
+{
+    let o = put(out, at, p);
+    spread(out, o, i, e, p);
+    put(out, e, &RESET)
+}
+
+// The text from i up to e goes to o, with p inserted after each reset, so that it ends at e. Where it needn't move there is nothing to insert: few
+// texts hold a reset, and no other is looked at.
 fn spread(out: &mut [u8], o: usize, i: usize, e: usize, p: &[u8])
+    requires { ⌜ (i ≤ e) × ((e ≤ length (now out)) × (o + length (reinserted (now p) (part i e (now out))) ≡ e)) ⌝ }
+    ensures { λ _. ⌜ now (out .exit) ≡ putAt (now (out .entry)) o (reinserted (now (p .entry)) (part i e (now (out .entry)))) ⌝ }
+{
+    if o < i {
+        insert(out, o, i, e, p);
+    }
+}
+
+// The same, whether it moves or not. All of the text stands in the buffer, so that the bytes at the place read are compared with the reset. Where
+// the place written has reached the place read nothing is left to insert, and the rest stands where it must.
+fn insert(out: &mut [u8], o: usize, i: usize, e: usize, p: &[u8])
     requires { ⌜ (i ≤ e) × ((e ≤ length (now out)) × (o + length (reinserted (now p) (part i e (now out))) ≡ e)) ⌝ }
     ensures { λ _. ⌜ now (out .exit) ≡ putAt (now (out .entry)) o (reinserted (now (p .entry)) (part i e (now (out .entry)))) ⌝ }
 {

@@ -1,4 +1,6 @@
 // What each specifier shows of a record.
+use comparisons::Compared;
+use comparisons::comparison_in;
 use record::Level;
 use record::Name;
 use record::Places;
@@ -20,7 +22,7 @@ ghost use Rattle.record.specs.Contents.{recordOf};
 ghost use Rattle.paths.specs.Paths.{beforeColons};
 ghost use Rattle.fields.specs.Texts.{noCrate, orPlaceholder, wording};
 ghost use Rattle.fields.specs.Wordings.{fixedText, Tells};
-ghost use Rattle.fields.specs.Worded.{Worded, WordedAnywhere};
+ghost use Rattle.fields.specs.Worded.{Worded, WordedAnywhere, Compares};
 
 // A text that doesn't come from the record: placeholders and the names of levels.
 pub enum Fixed {
@@ -60,6 +62,18 @@ pub fn wording_of(d: &[u8], p: Places, m: LogMetadata) -> Wording
         LogMetadata::ModulePath => build_module_path(p),
         LogMetadata::Timestamp => build_timestamp(p),
         LogMetadata::HeadSerial => build_head_serial(p),
+    }
+}
+
+// The comparison that a record's message is, by its places: "Take it over for device messages".
+pub fn comparison_of(d: &[u8], p: Places) -> Compared
+    requires { ⌜ PlacesWithin (length (now d)) p ⌝ }
+    ensures { λ r. ⌜ Compares (now (d .entry)) p r ⌝ }
+{
+    let source = source_of(p.source);
+    match source {
+        Source::Defmt => comparison_in(d, p.message_from, p.message_to),
+        Source::Host => Compared::Nothing,
     }
 }
 

@@ -1,2 +1,1 @@
 pub mod Slashing
-pub mod Turns

@@ -6,10 +6,7 @@ use native.Mathlib.Omega.{arith}
 use native.Mathlib.Decide.{decLt}
 use lib.ListN.{length, take, drop, length-take, length-drop}
 use Rattle.buffer.specs.Bytes.{part}
-
-pub empty : (s : List ℕ) → length s ≡ 0 → s ≡ []
-empty [] e = refl
-empty (b ∷ s) e = absurd (let z : ⊥ = omega arith in z)
+use Rattle.dress.proofs.Framing.{empty}
 
 -- more than all is all
 take-enough : (n m : ℕ) (s : List ℕ) → length s ≤ n → length s ≤ m → take n s ≡ take m s

@@ -1,12 +1,11 @@
 -- How long the text of a specifier is at most, where the record's texts are short. Assumes nothing.
-use Prim.Native.Nat.{ℕ, zero, suc, _+_, _*_, _-_, _/_, _%_, _≤_}
-use mathlib.Core.Path.{_≡_, refl}
+use Prim.Native.Nat.{ℕ, zero, suc, _+_, _-_, _/_, _%_, _≤_, _<_, _^_}
+use mathlib.Core.Path.{_≡_}
 use mathlib.Core.Bool.{Bool, true, false}
 use mathlib.Core.List.{List, [], _∷_, _++_}
 use native.Mathlib.Omega.{arith}
 use native.Mathlib.Decide.{decLt}
 use borrow.Author.Tests.{lt-ltb, le-ltb}
-use lib.Dec.{eqb}
 use lib.ListN.{length, drop, length-append}
 use Rattle.buffer.specs.Bytes.{bytes, same}
 use Rattle.buffer.specs.Table.{Maybe, none, some}
@@ -22,7 +21,10 @@ use Rattle.record.specs.Contents.{sourceOf, hasFile, hasModule, hasSerial, give
 use Rattle.paths.specs.Paths.{components, lastOf, slashed, joinedBySlash, fileName, after-byte, beforeColons}
 use Rattle.paths.proofs.Short.{slashed-first, slashed-components}
 use Rattle.fields.specs.Texts.{noCrate, noFile, noModule, noTime, noHead, orPlaceholder, there, digits, decimalText, notEmpty, timeOf, wording}
+use Rattle.colour.specs.declared.Settings.{Settings}
 use Rattle.leaves.specs.Places.{Short}
+use Rattle.leaves.specs.Fields.{fieldText}
+use Rattle.leaves.proofs.Fields.{message-small}
 
 -- a text of n bytes at most, if there is one
 abbrev Within : ℕ → Maybe (List ℕ) → Type 0
@@ -131,3 +133,16 @@ wording-short d h Timestamp =
 wording-short d h HeadSerial =
     placeholder noHead (there some (givenIf (hasSerial d) (d .serial))) 8200 (omega arith)
     (there-within some (hasSerial d) (d .serial) 8200 (omega (arith, h .serial)))
+
+-- and what it shows
+pub field-short : (s : Settings) (d : Laid) → Short d → (m : LogMetadata) → length (fieldText s (recordOf d) m) < 2 ^ 18
+unfolding recordOf fieldText
+field-short s d h CrateName = omega (arith, wording-short d h CrateName)
+field-short s d h (FileName n) = omega (arith, wording-short d h (FileName n))
+field-short s d h FilePath = omega (arith, wording-short d h FilePath)
+field-short s d h LineNumber = omega (arith, wording-short d h LineNumber)
+field-short s d h Log = message-small s (recordOf d) (h .message)
+field-short s d h LogLevel = omega (arith, wording-short d h LogLevel)
+field-short s d h ModulePath = omega (arith, wording-short d h ModulePath)
+field-short s d h Timestamp = omega (arith, wording-short d h Timestamp)
+field-short s d h HeadSerial = omega (arith, wording-short d h HeadSerial)

@@ -1,7 +1,14 @@
--- Scaffolding, for proofs alone: A record's numbers as a lent row of fourteen, in the order of `Places`. Assumes nothing.
+-- Scaffolding, for proofs alone: A record's numbers as a lent row: fourteen in the order of `Places`, then nine of the comparison that its message is.
+-- Assumes nothing.
 use Prim.Native.Nat.{ℕ, _≤_}
+use mathlib.Core.Bool.{Bool, true, false, not}
 use mathlib.Core.List.{List}
+use lib.Dec.{eqb}
 use lib.ListN.{length, getD}
+use Rattle.comparisons.specs.declared.Spans.{Spans}
+use Rattle.comparisons.specs.declared.Compared.{Compared}
+use Rattle.comparisons.specs.declared.Compared.the-variants.{Nothing, At}
+use Rattle.fields.specs.Worded.{Compares}
 use Rattle.record.specs.declared.Source.{Source}
 use Rattle.record.specs.declared.Level.{Level}
 use Rattle.record.specs.declared.Places.{Places}
@@ -10,6 +17,10 @@ use Rattle.record.specs.Layout.{Laid}
 use Rattle.record.specs.Placed.{laidBy, PlacesWithin}
 use Rattle.record.specs.Levels.{levelOf}
 use Rattle.record.specs.Contents.{sourceOf, recordOf}
+
+-- how many there are
+abbrev pub rowLength : ℕ
+rowLength = 23
 
 unfoldable pub placesOf : List ℕ → Places
 placesOf n = record {
@@ -28,6 +39,21 @@ placesOf n = record {
   «serial_from» = getD n 12 0;
   «serial_to» = getD n 13 0;
 }
+
+-- the places of the comparison
+unfoldable pub spansOf : List ℕ → Spans
+spansOf n = record {
+  head = getD n 14 0;
+  left = record { from = getD n 15 0; begun = getD n 16 0; rest = getD n 17 0; to = getD n 18 0 };
+  right = record { from = getD n 19 0; begun = getD n 20 0; rest = getD n 21 0; to = getD n 22 0 };
+}
+
+-- whether there is one: its left value begins behind its mark, so never at 0
+unfoldable pub hasComparison : List ℕ → Bool
+hasComparison n = not (eqb (getD n 15 0) 0)
+
+unfoldable pub comparedBy : List ℕ → Compared
+comparedBy n = elim (hasComparison n) [ true ↦ At (spansOf n) | false ↦ Nothing ]
 
 -- the record whose numbers are n and whose bytes are d
 unfoldable pub recordBy : List ℕ → List ℕ → Record
@@ -48,9 +74,15 @@ pub record Short (d : Laid) : Type 0 where
   pub message : length (d .message) ≤ 4096
   pub serial : length (d .serial) ≤ 4096
 
+-- the numbers tell the places of a record in the bytes d, and the comparison that its message is
+pub record Lent (d numbers : List ℕ) : Type 0 where
+  pub row : rowLength ≤ length numbers
+  pub places : PlacesWithin (length d) (placesOf numbers)
+  pub short : length (recordBy numbers d .message) ≤ 4096
+  pub compared : Compares d (placesOf numbers) (comparedBy numbers)
+
 -- what is lent can be read: n segments, and a record's numbers and bytes
 pub record Readable (cells d numbers : List ℕ) (n : ℕ) : Type 0 where
   pub pool : 512 ≤ length cells
   pub few : n ≤ 64
-  pub row : 14 ≤ length numbers
-  pub places : PlacesWithin (length d) (placesOf numbers)
+  pub lent : Lent d numbers

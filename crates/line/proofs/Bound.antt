@@ -24,10 +24,11 @@ use Rattle.fields.specs.Texts.{wording}
 use Rattle.formats.specs.Formats.{defaultWidth, widthFor, formatFor, specifierFormat, groupFormat}
 use Rattle.fields.specs.Lines.{segmentShown, segmentsShown}
 use Rattle.leaves.specs.Places.{placesOf, recordBy}
-use Rattle.rows.specs.Texts.{segmentText, segmentsText, rawText, isBare, formatOf}
+use Rattle.rows.specs.Texts.{segmentText, segmentsText, rawText, bareMessage, isBare, formatOf}
 use Rattle.rows.specs.Rows.{Countable, Writable}
-use Rattle.rows.proofs.Segments.{segment-bare, segment-formatted}
-use Rattle.leaves.proofs.Wordings.{wording-short}
+use Rattle.rows.proofs.Segments.{field-worded, segment-bare, segment-formatted}
+use Rattle.leaves.specs.Fields.{fieldText}
+use Rattle.leaves.proofs.Wordings.{wording-short, field-short}
 
 -- more than the longest text of a segment that holds no other, and sixteen times that for each level of groups
 abbrev scale : ℕ → ℕ
@@ -68,17 +69,18 @@ swap : (a b : ℕ) → a * (16 * b) ≡ 16 * (a * b)
 swap a b = sym (mul-assoc a 16 b) ∙ ap (λ (y : ℕ). y * b) (mul-comm a 16) ∙ mul-assoc 16 a b
 
 -- each segment has a byte to spare, so that the sum stays below the bound
-module _ (s : Settings) (t : List ℕ) (r : Record) (short : length t ≤ 1024) (fields : (m : LogMetadata) → length (wording r m) ≤ 8200) where
+module _ (s : Settings) (t : List ℕ) (r : Record) (short : length t ≤ 1024) (fields : (m : LogMetadata) → length (wording r m) ≤ 8200) (shown : (m : LogMetadata) → length (fieldText s r m) < 2 ^ 18) where
   specifier-small : (m : LogMetadata) (f : LogFormat) → Narrow (f .width) → length (segmentText s t r (specifier m f)) < 2 ^ 18
   unfolding rawText formatOf
-  specifier-small m f h = by (isBare (r .source) (specifier m f)) refl
+  specifier-small m f h = by (isBare (bareMessage r) (specifier m f)) refl
     where
-      by : (b : Bool) → isBare (r .source) (specifier m f) ≡ b → length (segmentText s t r (specifier m f)) < 2 ^ 18
-      by true e = omega (arith, ap length (segment-bare s t r (specifier m f) e), fields m)
+      by : (b : Bool) → isBare (bareMessage r) (specifier m f) ≡ b → length (segmentText s t r (specifier m f)) < 2 ^ 18
+      by true e = omega (arith, ap length (segment-bare s t r (specifier m f) e), shown m)
       by false e = omega (
         arith,
         ap length (segment-formatted s t r (specifier m f) e),
-        length-formatted-coarse s (specifierFormat (r .level) m f) (wording r m),
+        length-formatted-coarse s (specifierFormat (r .level) m f) (fieldText s r m),
+        ap length (field-worded s t r m f e),
         specifier-narrow (r .level) m f h,
         fields m,
       )
@@ -125,10 +127,14 @@ module _ (s : Settings) (cells t d numbers : List ℕ) (n : ℕ) (w : Writable c
   unfolding recordBy
   fields-short m = wording-short (laidBy (placesOf numbers) d) (w .texts) m
 
+  shown-short : (m : LogMetadata) → length (fieldText s (recordBy numbers d) m) < 2 ^ 18
+  unfolding recordBy
+  shown-short m = field-short s (laidBy (placesOf numbers) d) (w .texts) m
+
   pub countable : Countable s t (recordBy numbers d) cells n
   countable = record {
-    size = λ i h. segment-counted s t (recordBy numbers d) (w .template) fields-short (segmentAt cells i) (w .sound .low i h) (w .sound .few i h);
+    size = λ i h. segment-counted s t (recordBy numbers d) (w .template) fields-short shown-short (segmentAt cells i) (w .sound .low i h) (w .sound .few i h);
   }
 
   pub line-counted : length (segmentsText s t (recordBy numbers d) (chainAt cells n)) < 2 ^ 57
-  line-counted = omega (arith, segments-counted s t (recordBy numbers d) (w .template) fields-short (chainAt cells n) (w .low) (w .few))
+  line-counted = omega (arith, segments-counted s t (recordBy numbers d) (w .template) fields-short shown-short (chainAt cells n) (w .low) (w .few))

@@ -1,2 +1,2 @@
 pub mod Bound
-pub mod Placing
+pub mod Written

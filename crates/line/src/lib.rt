@@ -89,7 +89,7 @@ fn put_raw(
             out,
             at,
         ),
-        Kind::Specifier(m) => put_field(d, numbers, m, out, at),
+        Kind::Specifier(m) => put_field(d, numbers, s, m, out, at),
     }
 }
 

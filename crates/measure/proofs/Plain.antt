@@ -8,19 +8,19 @@ use lib.Dec.{eqb, ltb}
 use lib.ListN.{length, drop, getD, drop-of-length-le}
 use borrow.Author.Tests.{ltb-true, lt-ltb, le-ltb, eq-eqb, ne-eqb, eqb-false}
 use Rattle.buffer.proofs.Parts.{drop-step}
-use Rattle.characters.specs.Characters.{begins, chars}
+use Rattle.characters.specs.Characters.{chars}
 use Rattle.characters.proofs.Counting.{begins-below}
 use Rattle.widths.specs.declared.Rule.{Rule}
 use Rattle.widths.specs.declared.Wides.{Wides}
-use Rattle.widths.specs.Widths.{noneBegun, ran}
+use Rattle.widths.specs.Widths.{noneBegun}
 use Rattle.colour.specs.declared.State.the-variants.{Outside}
 use Rattle.colour.specs.declared.Scan.{Scan}
 use Rattle.colour.specs.Sequences.{esc}
 use Rattle.colour.specs.Machine.{scan}
-use Rattle.colour.specs.Seeing.{letGo, seenAfter}
+use Rattle.colour.specs.Seeing.{seenAfter}
 use Rattle.colour.specs.Texts.{Free}
 use Rattle.colour.proofs.Scanning.{scan-free}
-use Rattle.colour.proofs.Seeing.{Low, ran-low, let-go-wide, seen-free}
+use Rattle.colour.proofs.Seeing.{Low, ran-low, seen-free}
 use Rattle.scanning.specs.Resting.{isResting}
 use Rattle.scanning.proofs.Rests.{rests-outside}
 use Rattle.measure.specs.declared.Eye.{Eye}

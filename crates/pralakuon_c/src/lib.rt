@@ -21,7 +21,7 @@ const MAJOR: u64 = 0;
 
 const MINOR: u64 = 6;
 
-const PATCH: u64 = 0;
+const PATCH: u64 = 1;
 
 // The line of the record d by the template t.
 #[no_mangle]

@@ -9,26 +9,24 @@ use Rattle.colour.specs.declared.Format.{Format}
 use Rattle.segments.specs.declared.Kind.{Kind}
 use Rattle.segments.specs.Pool.{kindAt, formatAt, segmentAt}
 use Rattle.segments.proofs.Chains.{segment-text, segment-group, segment-specifier}
-use Rattle.record.specs.declared.Source.{Source}
 use Rattle.record.specs.declared.Level.{Level}
 use Rattle.formats.specs.Formats.{specifierFormat, groupFormat}
 use Rattle.rows.specs.Texts.{bareFrom, isBare, formatOf}
 
 module _ (cells : List ℕ) (i : ℕ) (k : Kind) (ke : k ≡ kindAt cells i) where
-  pub text-is-bare : (q : Source) → k ≡ Kind.Text → true ≡ isBare q (segmentAt cells i)
+  pub text-is-bare : (q : Bool) → k ≡ Kind.Text → true ≡ isBare q (segmentAt cells i)
   unfolding isBare
   text-is-bare q e = sym (ap (isBare q) (segment-text cells i (sym ke ∙ e)))
 
-  pub group-is-not : (q : Source) → k ≡ Kind.Group → false ≡ isBare q (segmentAt cells i)
+  pub group-is-not : (q : Bool) → k ≡ Kind.Group → false ≡ isBare q (segmentAt cells i)
   unfolding isBare
   group-is-not q e = sym (ap (isBare q) (segment-group cells i (sym ke ∙ e)))
 
-  pub specifier-is : (q p : Source) (m : LogMetadata) (b : Bool) → k ≡ Kind.Specifier m → p ≡ q → b ≡ bareFrom p m → b ≡ isBare q (segmentAt cells i)
+  pub specifier-is : (q : Bool) (m : LogMetadata) (b : Bool) → k ≡ Kind.Specifier m → b ≡ bareFrom q m → b ≡ isBare q (segmentAt cells i)
   unfolding isBare
-  specifier-is q p m b e pe be =
-      be ∙ ap (λ (x : Source). bareFrom x m) pe ∙ sym (ap (isBare q) (segment-specifier cells i m (sym ke ∙ e)))
+  specifier-is q m b e be = be ∙ sym (ap (isBare q) (segment-specifier cells i m (sym ke ∙ e)))
 
-  pub text-format : (q : Source) (l : Level) (g : Format) → k ≡ Kind.Text → isBare q (segmentAt cells i) ≡ false → g ≡ formatOf l (segmentAt cells i)
+  pub text-format : (q : Bool) (l : Level) (g : Format) → k ≡ Kind.Text → isBare q (segmentAt cells i) ≡ false → g ≡ formatOf l (segmentAt cells i)
   text-format q l g e b = let z : true ≡ false = text-is-bare q e ∙ b in cc
 
   pub group-format : (l : Level) (f : LogFormat) (g : Format) → k ≡ Kind.Group → f ≡ formatAt cells i → g ≡ groupFormat l f → g ≡ formatOf l (segmentAt cells i)

@@ -1,43 +1,34 @@
 -- A segment's text from its text before it is formatted and the frame around it, measured. Assumes nothing.
 use Prim.Native.Nat.{ℕ, _+_, _-_, _≤_}
 use mathlib.Core.Path.{_≡_, refl, sym, ap, _∙_, subst}
-use mathlib.Core.Bool.{Bool, true, false, cond, _&&_}
+use mathlib.Core.Bool.{Bool, true, false, cond, _&&_, _||_}
 use mathlib.Core.List.{List, [], _∷_, _++_, append-nil}
 use native.Mathlib.Omega.{arith}
 use borrow.Author.Tests.{ne-eqb, eqb-true}
 use lib.Dec.{eqb}
-use lib.ListN.{length, replicate, length-append, length-replicate}
+use lib.ListN.{length, replicate}
 use Rattle.colour.specs.declared.Settings.{Settings}
 use Rattle.colour.specs.declared.Format.{Format}
-use Rattle.colour.specs.Formatting.{prefixIn, inserted, padded, before, padByte, ending, framed, formatted}
-use Rattle.colour.proofs.Formatted.{before-small, padded-small, inserted-nil, laid-plain}
+use Rattle.colour.specs.Formatting.{inserted, padded, before, padByte, ending, framed, formatted}
+use Rattle.colour.proofs.Formatted.{padded-small, inserted-nil, laid-plain}
 use Rattle.colour.proofs.Measures.{length-laid, inserted-resets}
 use Rattle.measure.specs.declared.Measure.{Measure}
-use Rattle.measure.specs.Measures.{nothing, grown, more, insertedIn, paddingIn}
-use Rattle.measure.proofs.Walked.{walked, inserted-measured, padding-measured}
+use Rattle.measure.specs.Measures.{nothing, grown, insertedIn, paddingIn}
+use Rattle.measure.proofs.Walked.{inserted-measured, padding-measured}
 use Rattle.segments.specs.Segments.{LogSegment}
+use Rattle.record.specs.declared.Level.{Level}
 use Rattle.record.specs.Records.{Record}
 use Rattle.record.specs.Placed.{laidBy}
 use Rattle.record.specs.Contents.{recordOf}
 use Rattle.rows.specs.declared.Row.{Row}
-use Rattle.rows.specs.declared.Frame.{Frame}
-use Rattle.leaves.specs.Places.{placesOf, recordBy, sourceBy, levelBy}
-use Rattle.rows.specs.Texts.{segmentText, rawText, isBare, formatOf}
+use Rattle.dress.specs.declared.Frame.{Frame}
+use Rattle.dress.proofs.Framing.{empty, opening, Framed}
+use Rattle.leaves.specs.Places.{placesOf, hasComparison, recordBy, sourceBy, levelBy, Lent}
+use Rattle.leaves.proofs.Fields.{there-told}
+use Rattle.rows.specs.Texts.{segmentText, rawText, isHost, bareMessage, bareBy, isBare, formatOf}
 use Rattle.rows.specs.Rows.{bareRow, rowIn, rowOf, frameBy, isEmpty}
 use Rattle.buffer.proofs.Sameness.{both-true}
-use Rattle.leaves.proofs.Cutting.{empty}
 use Rattle.rows.proofs.Segments.{segment-bare, segment-formatted}
-
--- the prefix of a frame
-abbrev pub opening : Settings → Format → List ℕ
-opening s f = prefixIn (s .colour) (f .look)
-
--- y is the text x in the frame w
-pub record Framed (s : Settings) (w : Frame) (x y : List ℕ) : Type 0 where
-  pub left : w .left ≡ before (w .format .alignment) (padded s (w .format) x)
-  pub right : w .right ≡ padded s (w .format) x - before (w .format .alignment) (padded s (w .format) x)
-  pub between : w .inserted ≡ inserted (opening s (w .format)) x
-  pub text : y ≡ framed (opening s (w .format)) (w .format) (padded s (w .format) x) x
 
 pub frame-made : (f g : Format) (w v : Row) (l : ℕ) → g ≡ f → v ≡ w → l ≡ before (g .alignment) (v .padding)
     → _≡_ {A = Frame} (record { format = g; left = l; right = v .padding - l; inserted = v .inserted }) (frameBy f w)
@@ -52,46 +43,61 @@ ends-length [] = refl
 ends-length (b ∷ p) = rw (ne-eqb (length (b ∷ p)) 0 (λ e. omega arith))
 
 module _ (s : Settings) (t : List ℕ) (r : Record) (x : LogSegment) where
-  pub row-of-bare : isBare (r .source) x ≡ true → rowOf s t r x ≡ bareRow (length (segmentText s t r x))
+  pub row-of-bare : isBare (bareMessage r) x ≡ true → rowOf s t r x ≡ bareRow (length (segmentText s t r x))
   unfolding rowOf
   row-of-bare e = rw (e, rowOf)
 
-  pub row-of-formatted : isBare (r .source) x ≡ false → rowOf s t r x ≡ rowIn s (formatOf (r .level) x) (rawText s t r x) (length (segmentText s t r x))
+  pub row-of-formatted : isBare (bareMessage r) x ≡ false → rowOf s t r x ≡ rowIn s (formatOf (r .level) x) (rawText s t r x) (length (segmentText s t r x))
   unfolding rowOf
   row-of-formatted e = rw (e, rowOf)
 
   pub row-length : rowOf s t r x .len ≡ length (segmentText s t r x)
   unfolding bareRow rowIn
-  row-length = by (isBare (r .source) x) refl
+  row-length = by (isBare (bareMessage r) x) refl
     where
-      by : (b : Bool) → isBare (r .source) x ≡ b → rowOf s t r x .len ≡ length (segmentText s t r x)
+      by : (b : Bool) → isBare (bareMessage r) x ≡ b → rowOf s t r x .len ≡ length (segmentText s t r x)
       by true e = ap (λ (w : Row). w .len) (row-of-bare e)
       by false e = ap (λ (w : Row). w .len) (row-of-formatted e)
 
-module _ (s : Settings) (t d numbers : List ℕ) where
-  -- a record's source and level need no bytes
-  pub bare-text : (x : LogSegment) → isBare (sourceBy numbers) x ≡ true → segmentText s t (recordBy numbers d) x ≡ rawText s t (recordBy numbers d) x
+module _ (s : Settings) (t d numbers : List ℕ) (lent : Lent d numbers) where
+  -- what the numbers tell of the record
+  same-source : isHost (sourceBy numbers) ≡ isHost (recordBy numbers d .source)
   unfolding recordBy recordOf laidBy placesOf sourceBy
-  bare-text x e = segment-bare s t (recordBy numbers d) x e
+  same-source = refl
 
-  pub formatted-text : (x : LogSegment) → isBare (sourceBy numbers) x ≡ false
+  told : bareBy numbers ≡ bareMessage (recordBy numbers d)
+  unfolding bareBy bareMessage
+  told = ap (λ (b : Bool). b || hasComparison numbers) same-source ∙ ap (λ (b : Bool). isHost (recordBy numbers d .source) || b) (sym (there-told d numbers lent))
+
+  same-level : levelBy numbers ≡ recordBy numbers d .level
+  unfolding recordBy recordOf laidBy placesOf levelBy
+  same-level = refl
+
+  known : (x : LogSegment) (b : Bool) → isBare (bareBy numbers) x ≡ b → isBare (bareMessage (recordBy numbers d)) x ≡ b
+  known x b e = ap (λ (q : Bool). isBare q x) (sym told) ∙ e
+
+  pub bare-text : (x : LogSegment) → isBare (bareBy numbers) x ≡ true → segmentText s t (recordBy numbers d) x ≡ rawText s t (recordBy numbers d) x
+  bare-text x e = segment-bare s t (recordBy numbers d) x (known x true e)
+
+  pub formatted-text : (x : LogSegment) → isBare (bareBy numbers) x ≡ false
       → segmentText s t (recordBy numbers d) x ≡ formatted s (formatOf (levelBy numbers) x) (rawText s t (recordBy numbers d) x)
-  unfolding recordBy recordOf laidBy placesOf sourceBy levelBy
-  formatted-text x e = segment-formatted s t (recordBy numbers d) x e
+  formatted-text x e =
+      segment-formatted s t (recordBy numbers d) x (known x false e)
+      ∙ ap (λ (l : Level). formatted s (formatOf l x) (rawText s t (recordBy numbers d) x)) (sym same-level)
 
   -- ---- rows
 
-  row-is-bare : (x : LogSegment) → isBare (sourceBy numbers) x ≡ true → rowOf s t (recordBy numbers d) x ≡ bareRow (length (segmentText s t (recordBy numbers d) x))
-  unfolding recordBy recordOf laidBy placesOf sourceBy
-  row-is-bare x e = row-of-bare s t (recordBy numbers d) x e
+  row-is-bare : (x : LogSegment) → isBare (bareBy numbers) x ≡ true → rowOf s t (recordBy numbers d) x ≡ bareRow (length (segmentText s t (recordBy numbers d) x))
+  row-is-bare x e = row-of-bare s t (recordBy numbers d) x (known x true e)
 
-  row-formatted : (x : LogSegment) → isBare (sourceBy numbers) x ≡ false
+  row-formatted : (x : LogSegment) → isBare (bareBy numbers) x ≡ false
       → rowOf s t (recordBy numbers d) x ≡ rowIn s (formatOf (levelBy numbers) x) (rawText s t (recordBy numbers d) x) (length (segmentText s t (recordBy numbers d) x))
-  unfolding recordBy recordOf laidBy placesOf sourceBy levelBy
-  row-formatted x e = row-of-formatted s t (recordBy numbers d) x e
+  row-formatted x e =
+      row-of-formatted s t (recordBy numbers d) x (known x false e)
+      ∙ ap (λ (l : Level). rowIn s (formatOf l x) (rawText s t (recordBy numbers d) x) (length (segmentText s t (recordBy numbers d) x))) (sym same-level)
 
   -- what a format adds to the bytes of a text
-  formatted-length : (x : LogSegment) (f : Format) → isBare (sourceBy numbers) x ≡ false → f ≡ formatOf (levelBy numbers) x
+  formatted-length : (x : LogSegment) (f : Format) → isBare (bareBy numbers) x ≡ false → f ≡ formatOf (levelBy numbers) x
       → length (segmentText s t (recordBy numbers d) x)
       ≡ length (rawText s t (recordBy numbers d) x) + (inserted (opening s f) (rawText s t (recordBy numbers d) x) + (padded s f (rawText s t (recordBy numbers d) x) + (length (opening s f) + length (ending (opening s f)))))
   unfolding formatted
@@ -104,12 +110,12 @@ module _ (s : Settings) (t d numbers : List ℕ) where
         inserted-resets (opening s f) y,
       )
 
-  pub row-bare : (x : LogSegment) (w : Row) (n : ℕ) → isBare (sourceBy numbers) x ≡ true → n ≡ length (rawText s t (recordBy numbers d) x) → w ≡ bareRow n
+  pub row-bare : (x : LogSegment) (w : Row) (n : ℕ) → isBare (bareBy numbers) x ≡ true → n ≡ length (rawText s t (recordBy numbers d) x) → w ≡ bareRow n
       → w ≡ rowOf s t (recordBy numbers d) x
   row-bare x w n e ne we = we ∙ ap bareRow (ne ∙ ap length (sym (bare-text x e))) ∙ sym (row-is-bare x e)
 
   -- no width and no prefix: nothing to pad, nothing to insert
-  pub row-none : (x : LogSegment) (f : Format) (w : Row) (n : ℕ) → isBare (sourceBy numbers) x ≡ false → f ≡ formatOf (levelBy numbers) x → f .width ≡ 0
+  pub row-none : (x : LogSegment) (f : Format) (w : Row) (n : ℕ) → isBare (bareBy numbers) x ≡ false → f ≡ formatOf (levelBy numbers) x → f .width ≡ 0
       → length (opening s f) ≡ 0 → n ≡ length (rawText s t (recordBy numbers d) x) → w ≡ bareRow n → w ≡ rowOf s t (recordBy numbers d) x
   unfolding bareRow rowIn ending
   row-none x f w n b e z p ne we =
@@ -122,7 +128,7 @@ module _ (s : Settings) (t d numbers : List ℕ) where
       ∙ ap (λ (g : Format). rowIn s g y (length (segmentText s t (recordBy numbers d) x))) e ∙ sym (row-formatted x b)
 
   -- else all come from the measure of the text and the length of the prefix
-  module _ (x : LogSegment) (f : Format) (m : Measure) (n p q e : ℕ) (b : isBare (sourceBy numbers) x ≡ false) (fe : f ≡ formatOf (levelBy numbers) x)
+  module _ (x : LogSegment) (f : Format) (m : Measure) (n p q e : ℕ) (b : isBare (bareBy numbers) x ≡ false) (fe : f ≡ formatOf (levelBy numbers) x)
       (me : m ≡ grown (nothing (s .rule)) (rawText s t (recordBy numbers d) x)) (ne : n ≡ insertedIn s f m) (pe : p ≡ paddingIn s f m n) (qe : q ≡ length (opening s f))
       (ee : e ≡ cond (eqb q 0) 0 (q + 4)) where
     inserted-is : n ≡ inserted (opening s f) (rawText s t (recordBy numbers d) x)
@@ -157,7 +163,7 @@ module _ (s : Settings) (t d numbers : List ℕ) where
   unfolding frameBy rowIn formatted
   framed-plain f y z n e = record { left = refl; right = refl; between = refl; text = e }
 
-  pub framed-by : (x : LogSegment) (w : Frame) (row : Row) → isBare (sourceBy numbers) x ≡ false → row ≡ rowOf s t (recordBy numbers d) x
+  pub framed-by : (x : LogSegment) (w : Frame) (row : Row) → isBare (bareBy numbers) x ≡ false → row ≡ rowOf s t (recordBy numbers d) x
       → w ≡ frameBy (formatOf (levelBy numbers) x) row → Framed s w (rawText s t (recordBy numbers d) x) (segmentText s t (recordBy numbers d) x)
   framed-by x w row b re we =
       subst (λ (k : Frame). Framed s k (rawText s t (recordBy numbers d) x) (segmentText s t (recordBy numbers d) x))
@@ -165,7 +171,7 @@ module _ (s : Settings) (t d numbers : List ℕ) where
       (framed-plain (formatOf (levelBy numbers) x) (rawText s t (recordBy numbers d) x) (segmentText s t (recordBy numbers d) x) (length (segmentText s t (recordBy numbers d) x)) (formatted-text x b))
 
   -- a text is no longer before it is formatted
-  pub raw-shorter : (x : LogSegment) (b : Bool) → isBare (sourceBy numbers) x ≡ b
+  pub raw-shorter : (x : LogSegment) (b : Bool) → isBare (bareBy numbers) x ≡ b
       → length (rawText s t (recordBy numbers d) x) ≤ length (segmentText s t (recordBy numbers d) x)
   unfolding formatted
   raw-shorter x true e = omega (arith, ap length (bare-text x e))
@@ -175,41 +181,6 @@ module _ (s : Settings) (t d numbers : List ℕ) where
       omega (arith, ap length (formatted-text x e), length-laid (opening s f) f (padded s f y) y)
 
 module _ (s : Settings) (w : Frame) (x y : List ℕ) (h : Framed s w x y) where
-  pub framed-length : length y ≡ length (opening s (w .format)) + (w .left + (length x + (w .inserted + (w .right + length (ending (opening s (w .format)))))))
-  framed-length =
-      let f = w .format in
-      omega (
-        arith,
-        ap length (h .text),
-        length-laid (opening s f) f (padded s f x) x,
-        inserted-resets (opening s f) x,
-        before-small (f .alignment) (padded s f x),
-        h .left,
-        h .right,
-        h .between,
-      )
-
-  pub open-length : length (opening s (w .format) ++ replicate (w .left) (padByte (w .format .padding))) ≡ length (opening s (w .format)) + w .left
-  open-length =
-      length-append (opening s (w .format)) (replicate (w .left) (padByte (w .format .padding)))
-      ∙ ap (λ (n : ℕ). length (opening s (w .format)) + n) (length-replicate (w .left) (padByte (w .format .padding)))
-
-  -- one segment on top of a measure
-  pub frame-walked : (a b c : Measure) → b ≡ grown a (opening s (w .format) ++ replicate (w .left) (padByte (w .format .padding))) → c ≡ grown b x
-      → grown (more c (w .inserted)) (replicate (w .right) (padByte (w .format .padding)) ++ ending (opening s (w .format))) ≡ grown a y
-  frame-walked a b c be ce =
-      let f = w .format in
-      let p = opening s f in
-      let z = padByte (f .padding) in
-      let n = padded s f x in
-      let l = before (f .alignment) n in
-      ap (λ (k : Measure). grown (more k (w .inserted)) (replicate (w .right) z ++ ending p)) (ce ∙ ap (λ (k : Measure). grown k x) be)
-      ∙ ap (λ (k : ℕ). grown (more (grown (grown a (p ++ replicate k z)) x) (w .inserted)) (replicate (w .right) z ++ ending p)) (h .left)
-      ∙ ap (λ (k : ℕ). grown (more (grown (grown a (p ++ replicate l z)) x) k) (replicate (w .right) z ++ ending p)) (h .between)
-      ∙ ap (λ (k : ℕ). grown (more (grown (grown a (p ++ replicate l z)) x) (inserted p x)) (replicate k z ++ ending p)) (h .right)
-      ∙ walked s f a x n
-      ∙ ap (grown a) (sym (h .text))
-
   -- an empty frame leaves the text as it is
   pub framed-none : isEmpty s w ≡ true → y ≡ x
   unfolding isEmpty
@@ -226,7 +197,3 @@ module _ (s : Settings) (w : Frame) (x y : List ℕ) (h : Framed s w x y) where
       ∙ ap (λ (k : ℕ). replicate k z ++ (x ++ replicate (n - before (f .alignment) n) z)) (sym (h .left) ∙ eqb-true (w .left) 0 (b .0))
       ∙ ap (λ (k : ℕ). x ++ replicate k z) (sym (h .right) ∙ eqb-true (w .right) 0 (g .0))
       ∙ append-nil x
-
-  -- nothing is inserted where there is no prefix
-  pub inserted-none : length (opening s (w .format)) ≡ 0 → w .inserted ≡ 0
-  inserted-none p0 = h .between ∙ ap (λ (p : List ℕ). inserted p x) (empty (opening s (w .format)) p0) ∙ inserted-nil x

@@ -1,11 +1,13 @@
 -- The text of a segment, from its text before it is formatted, and of segments one after the other. Assumes nothing.
 use Prim.Native.Nat.{ℕ, _+_, _≤_}
 use mathlib.Core.Path.{_≡_, refl, sym, ap, _∙_}
-use mathlib.Core.Bool.{true, false}
+use mathlib.Core.Bool.{true, false, _||_}
 use mathlib.Core.List.{List, [], _++_, append-assoc, append-nil}
 use native.Mathlib.Omega.{arith}
 use lib.ListN.{length, length-append}
 use Rattle.buffer.specs.Bytes.{part}
+use Rattle.buffer.specs.Table.{Maybe, some}
+use Rattle.buffer.specs.Table as table
 use Rattle.buffer.specs.Buffer.{putAt}
 use Rattle.buffer.proofs.Writing.{put-nil, join}
 use Rattle.words.specs.declared.LogMetadata.{LogMetadata}
@@ -13,7 +15,7 @@ use Rattle.words.specs.declared.LogMetadata.the-variants.{CrateName, FileName, 
 use Rattle.words.specs.declared.LogFormat.{LogFormat}
 use Rattle.colour.specs.declared.Settings.{Settings}
 use Rattle.colour.specs.Formatting.{formatted}
-use Rattle.colour.specs.Shown.{textOf, joined}
+use Rattle.colour.specs.Shown.{Shown, textOf, joined}
 use Rattle.measure.specs.declared.Measure.{Measure}
 use Rattle.measure.specs.Measures.{grown}
 use Rattle.measure.proofs.Measured.{grown-append, grown-nil}
@@ -21,12 +23,15 @@ use Rattle.segments.specs.declared.Kind.{Kind}
 use Rattle.segments.specs.Segments.{LogSegment, LogSegments, text, specifier, group, none, more, _and-then_}
 use Rattle.segments.specs.Pool.{cell, kindAt, back, lastMember, segmentAt, chainAt}
 use Rattle.segments.proofs.Chains.{chain-none, chain-step, segment-text, segment-group, segment-specifier}
+use Rattle.comparisons.specs.Comparisons.{Comparison, layout, laidOrElse}
+use Rattle.layouts.proofs.Running.{bare-group}
+use Rattle.leaves.specs.Fields.{isThere, messageText, fieldText}
 use Rattle.record.specs.declared.Source.{Source}
 use Rattle.record.specs.Records.{Record}
 use Rattle.fields.specs.Texts.{wording}
 use Rattle.formats.specs.Formats.{specifierFormat}
-use Rattle.fields.specs.Lines.{inFormat, messageFrom, specifierShown, segmentShown, segmentsShown}
-use Rattle.rows.specs.Texts.{segmentText, segmentsText, rawText, isHost, bareFrom, isBare, formatOf}
+use Rattle.fields.specs.Lines.{inFormat, comparedFrom, comparisonOf, messageFrom, specifierShown, segmentShown, segmentsShown}
+use Rattle.rows.specs.Texts.{segmentText, segmentsText, rawText, isHost, bareMessage, bareFrom, isBare, formatOf}
 
 module _ (s : Settings) (t : List ℕ) (r : Record) where
   pub text-none : segmentsText s t r none ≡ []
@@ -43,31 +48,54 @@ module _ (s : Settings) (t : List ℕ) (r : Record) where
 
   -- ---- bare or formatted
 
-  message-bare : (q : Source) (f : LogFormat) → isHost q ≡ true → textOf s (messageFrom q r f) ≡ wording r Log
-  unfolding isHost messageFrom textOf wording
-  message-bare Source.Defmt f e = cc
-  message-bare Source.Host f e = refl
+  -- a layout is what its members are
+  laid-bare : (x : Shown) (m : List ℕ) (c : Maybe Comparison) → isThere c ≡ true → textOf s (laidOrElse x c) ≡ messageText s m c
+  unfolding isThere laidOrElse messageText
+  laid-bare x m table.none e = cc
+  laid-bare x m (some c) e = bare-group s (layout c)
 
-  message-formatted : (q : Source) (f : LogFormat) → isHost q ≡ false → textOf s (messageFrom q r f) ≡ formatted s (specifierFormat (r .level) Log f) (wording r Log)
-  unfolding isHost messageFrom inFormat textOf
-  message-formatted Source.Defmt f e = refl
+  laid-not : (x : Shown) (c : Maybe Comparison) → isThere c ≡ false → textOf s (laidOrElse x c) ≡ textOf s x
+  unfolding isThere laidOrElse
+  laid-not x table.none e = refl
+  laid-not x (some c) e = cc
+
+  unlaid : (m : List ℕ) (c : Maybe Comparison) → isThere c ≡ false → messageText s m c ≡ m
+  unfolding isThere messageText
+  unlaid m table.none e = refl
+  unlaid m (some c) e = cc
+
+  -- a host's message is none
+  from-host : r .source ≡ Source.Host → comparisonOf r ≡ table.none
+  unfolding comparedFrom
+  from-host e = ap (λ (q : Source). comparedFrom q (r .message)) e
+
+  message-bare : (q : Source) (f : LogFormat) → r .source ≡ q → (isHost q || isThere (comparisonOf r)) ≡ true → textOf s (messageFrom q r f) ≡ fieldText s r Log
+  unfolding isHost messageFrom textOf fieldText messageText
+  message-bare Source.Defmt f k e = laid-bare (inFormat r Log f) (r .message) (comparisonOf r) e
+  message-bare Source.Host f k e = sym (ap (messageText s (r .message)) (from-host k))
+
+  message-formatted : (q : Source) (f : LogFormat) → (isHost q || isThere (comparisonOf r)) ≡ false
+      → textOf s (messageFrom q r f) ≡ formatted s (specifierFormat (r .level) Log f) (fieldText s r Log)
+  unfolding isHost messageFrom inFormat textOf fieldText wording
+  message-formatted Source.Defmt f e =
+      laid-not (inFormat r Log f) (comparisonOf r) e ∙ ap (formatted s (specifierFormat (r .level) Log f)) (sym (unlaid (r .message) (comparisonOf r) e))
   message-formatted Source.Host f e = cc
 
-  specifier-bare : (m : LogMetadata) (f : LogFormat) → bareFrom (r .source) m ≡ true → textOf s (specifierShown r m f) ≡ wording r m
-  unfolding bareFrom specifierShown
+  specifier-bare : (m : LogMetadata) (f : LogFormat) → bareFrom (bareMessage r) m ≡ true → textOf s (specifierShown r m f) ≡ fieldText s r m
+  unfolding bareFrom bareMessage specifierShown
   specifier-bare CrateName f e = cc
   specifier-bare (FileName n) f e = cc
   specifier-bare FilePath f e = cc
   specifier-bare LineNumber f e = cc
-  specifier-bare Log f e = message-bare (r .source) f e
+  specifier-bare Log f e = message-bare (r .source) f refl e
   specifier-bare LogLevel f e = cc
   specifier-bare ModulePath f e = cc
   specifier-bare Timestamp f e = cc
   specifier-bare HeadSerial f e = cc
 
-  specifier-formatted : (m : LogMetadata) (f : LogFormat) → bareFrom (r .source) m ≡ false
-      → textOf s (specifierShown r m f) ≡ formatted s (specifierFormat (r .level) m f) (wording r m)
-  unfolding bareFrom specifierShown inFormat textOf
+  specifier-formatted : (m : LogMetadata) (f : LogFormat) → bareFrom (bareMessage r) m ≡ false
+      → textOf s (specifierShown r m f) ≡ formatted s (specifierFormat (r .level) m f) (fieldText s r m)
+  unfolding bareFrom bareMessage specifierShown inFormat textOf fieldText
   specifier-formatted CrateName f e = refl
   specifier-formatted (FileName n) f e = refl
   specifier-formatted FilePath f e = refl
@@ -78,13 +106,35 @@ module _ (s : Settings) (t : List ℕ) (r : Record) where
   specifier-formatted Timestamp f e = refl
   specifier-formatted HeadSerial f e = refl
 
-  pub segment-bare : (x : LogSegment) → isBare (r .source) x ≡ true → segmentText s t r x ≡ rawText s t r x
+  -- what is formatted is a wording
+  message-worded : (q : Source) → (isHost q || isThere (comparisonOf r)) ≡ false → fieldText s r Log ≡ wording r Log
+  unfolding isHost fieldText wording
+  message-worded Source.Defmt e = unlaid (r .message) (comparisonOf r) e
+  message-worded Source.Host e = cc
+
+  specifier-worded : (m : LogMetadata) → bareFrom (bareMessage r) m ≡ false → fieldText s r m ≡ wording r m
+  unfolding bareFrom bareMessage fieldText
+  specifier-worded CrateName e = refl
+  specifier-worded (FileName n) e = refl
+  specifier-worded FilePath e = refl
+  specifier-worded LineNumber e = refl
+  specifier-worded Log e = message-worded (r .source) e
+  specifier-worded LogLevel e = refl
+  specifier-worded ModulePath e = refl
+  specifier-worded Timestamp e = refl
+  specifier-worded HeadSerial e = refl
+
+  pub field-worded : (m : LogMetadata) (f : LogFormat) → isBare (bareMessage r) (specifier m f) ≡ false → fieldText s r m ≡ wording r m
+  unfolding isBare
+  field-worded m f e = specifier-worded m e
+
+  pub segment-bare : (x : LogSegment) → isBare (bareMessage r) x ≡ true → segmentText s t r x ≡ rawText s t r x
   unfolding isBare rawText segmentShown textOf
   segment-bare (text i j) e = refl
   segment-bare (specifier m f) e = specifier-bare m f e
   segment-bare (group xs f) e = cc
 
-  pub segment-formatted : (x : LogSegment) → isBare (r .source) x ≡ false
+  pub segment-formatted : (x : LogSegment) → isBare (bareMessage r) x ≡ false
       → segmentText s t r x ≡ formatted s (formatOf (r .level) x) (rawText s t r x)
   unfolding isBare rawText formatOf segmentShown textOf
   segment-formatted (text i j) e = cc
@@ -108,7 +158,7 @@ module _ (s : Settings) (t : List ℕ) (r : Record) where
     unfolding rawText
     raw-of-group i k = ap (rawText s t r) (segment-group cells i k)
 
-    pub raw-of-specifier : (i : ℕ) (m : LogMetadata) → kindAt cells i ≡ Kind.Specifier m → rawText s t r (segmentAt cells i) ≡ wording r m
+    pub raw-of-specifier : (i : ℕ) (m : LogMetadata) → kindAt cells i ≡ Kind.Specifier m → rawText s t r (segmentAt cells i) ≡ fieldText s r m
     unfolding rawText
     raw-of-specifier i m k = ap (rawText s t r) (segment-specifier cells i m k)
 

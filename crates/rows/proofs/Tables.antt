@@ -14,7 +14,7 @@ use Rattle.leaves.specs.Places.{Readable}
 use Rattle.rows.specs.Rows.{rowAt, rowOf, Tabled}
 
 pub readable-less : (cells d numbers : List ℕ) (n m : ℕ) → m ≤ n → Readable cells d numbers n → Readable cells d numbers m
-readable-less cells d numbers n m h r = record { pool = r .pool; few = omega (arith, r .few); row = r .row; places = r .places }
+readable-less cells d numbers n m h r = record { pool = r .pool; few = omega (arith, r .few); lent = r .lent }
 
 -- ---- one row written
 

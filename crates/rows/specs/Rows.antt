@@ -14,9 +14,9 @@ use Rattle.segments.specs.Sizes.{sizes, Lows}
 use Rattle.record.specs.Records.{Record}
 use Rattle.record.specs.Placed.{laidBy}
 use Rattle.rows.specs.declared.Row.{Row}
-use Rattle.rows.specs.declared.Frame.{Frame}
+use Rattle.dress.specs.declared.Frame.{Frame}
 use Rattle.leaves.specs.Places.{placesOf, Short, Readable}
-use Rattle.rows.specs.Texts.{segmentText, rawText, isBare, formatOf}
+use Rattle.rows.specs.Texts.{segmentText, rawText, bareMessage, isBare, formatOf}
 
 -- row i of a table
 unfoldable pub rowAt : List ℕ → ℕ → Row
@@ -33,7 +33,7 @@ rowIn s f x n = record { padding = padded s f x; inserted = inserted (prefixIn (
 -- the row of a segment: no more than the length for one that is never formatted
 unfoldable pub rowOf : Settings → List ℕ → Record → LogSegment → Row
 rowOf s t r x =
-    elim (isBare (r .source) x) [
+    elim (isBare (bareMessage r) x) [
       | true ↦ bareRow (length (segmentText s t r x))
       | false ↦ rowIn s (formatOf (r .level) x) (rawText s t r x) (length (segmentText s t r x))
     ]

@@ -2,7 +2,6 @@
 // members are measured as a whole: each text goes on top of the measure of all before it, and what a group inserts and pads is looked up in a
 // table, which is filled segment by segment. So no text is measured more often than groups stand around it. The table has the lengths too: a
 // text with nothing around it is only counted, and a line is as long as its segments together.
-use colour::Format;
 use colour::Settings;
 use leaves::add_field;
 use leaves::add_text;
@@ -46,14 +45,6 @@ pub struct Row {
     pub len: usize,
 }
 
-// The same with the padding on either side, and the format that it is for.
-pub struct Frame {
-    pub format: Format,
-    pub left: usize,
-    pub right: usize,
-    pub inserted: usize,
-}
-
 // The text of the segment at i on top of a measure, before it is formatted. Groups stand `depth` deep there at most, and a group's members are
 // gone into with one less: the three functions call each other in a cycle that ends because the depth falls.
 fn raw_of(
@@ -90,7 +81,7 @@ fn raw_of(
             last_at(cells, i),
             a,
         ),
-        Kind::Specifier(m) => add_field(d, numbers, m, a),
+        Kind::Specifier(m) => add_field(d, numbers, s, m, a),
     }
 }
 
@@ -191,7 +182,7 @@ fn raw_len(
     match kind {
         Kind::Text => text_len(cells, t, i),
         Kind::Group => members_len(cells, table, last_at(cells, i)),
-        Kind::Specifier(m) => field_len(d, numbers, m),
+        Kind::Specifier(m) => field_len(d, numbers, s, m),
     }
 }
 

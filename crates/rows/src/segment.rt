@@ -1,8 +1,8 @@
 // What the numbers lent for a line say of a segment: whether and how it is formatted, and its row of the table.
-use super::Frame;
 use super::Row;
 use colour::Format;
 use colour::Settings;
+use dress::Frame;
 use formats::group_format;
 use formats::specifier_format;
 use measure::padding::before_text;
@@ -18,41 +18,42 @@ ghost use mathlib.Core.Bool.{false};
 ghost use Prim.Native.Nat.{_+_, _*_, _<_, _≤_};
 ghost use lib.ListN.{length};
 ghost use Rattle.segments.specs.Pool.{segmentAt};
-ghost use Rattle.leaves.specs.Places.{sourceBy, levelBy};
-ghost use Rattle.rows.specs.Texts.{bareFrom, isBare, formatOf};
+ghost use Rattle.leaves.specs.Places.{rowLength, levelBy};
+ghost use Rattle.rows.specs.Texts.{bareBy, bareFrom, isBare, formatOf};
 ghost use Rattle.rows.specs.Rows.{rowAt, frameBy, isEmpty};
 
 // Whether the segment at i is never formatted.
 pub fn is_bare(cells: &[usize], numbers: &[usize], i: usize) -> bool
-    requires { ⌜ (512 ≤ length (now cells)) × ((i < 64) × (14 ≤ length (now numbers))) ⌝ }
-    ensures { λ r. ⌜ r ≡ isBare (sourceBy (now (numbers .entry))) (segmentAt (now (cells .entry)) i) ⌝ }
+    requires { ⌜ (512 ≤ length (now cells)) × ((i < 64) × (rowLength ≤ length (now numbers))) ⌝ }
+    ensures { λ r. ⌜ r ≡ isBare (bareBy (now (numbers .entry))) (segmentAt (now (cells .entry)) i) ⌝ }
 {
     let kind = kind_at(cells, i);
     match kind {
         Kind::Text => true,
         Kind::Group => false,
-        Kind::Specifier(m) => is_bare_from(source_of(numbers[0]), m),
+        Kind::Specifier(m) => is_bare_field(numbers, m),
     }
 }
 
-// "A host's `{s}` is the bare message"
-fn is_bare_from(source: Source, m: LogMetadata) -> bool
-    ensures { λ r. ⌜ r ≡ bareFrom source m ⌝ }
+// "A host's `{s}` is the bare message", and so is a comparison, which is laid out.
+fn is_bare_field(numbers: &[usize], m: LogMetadata) -> bool
+    requires { ⌜ rowLength ≤ length (now numbers) ⌝ }
+    ensures { λ r. ⌜ r ≡ bareFrom (bareBy (now (numbers .entry))) m ⌝ }
 {
     let LogMetadata::Log = m else {
         return false;
     };
-    if let Source::Host = source {
-        true
-    } else {
-        false
-    }
+    let source = source_of(numbers[0]);
+    let Source::Defmt = source else {
+        return true;
+    };
+    numbers[15] != 0
 }
 
 // The format of the segment at i.
 pub(crate) fn format_of(cells: &[usize], numbers: &[usize], i: usize) -> Format
-    requires { ⌜ (512 ≤ length (now cells)) × ((i < 64) × (14 ≤ length (now numbers))) ⌝ }
-    requires { ⌜ isBare (sourceBy (now numbers)) (segmentAt (now cells) i) ≡ false ⌝ }
+    requires { ⌜ (512 ≤ length (now cells)) × ((i < 64) × (rowLength ≤ length (now numbers))) ⌝ }
+    requires { ⌜ isBare (bareBy (now numbers)) (segmentAt (now cells) i) ≡ false ⌝ }
     ensures { λ r. ⌜ r ≡ formatOf (levelBy (now (numbers .entry))) (segmentAt (now (cells .entry)) i) ⌝ }
 {
     let kind = kind_at(cells, i);
@@ -78,8 +79,8 @@ fn row_at(table: &[usize], i: usize) -> Row
 
 // The format of the segment at i, with what its row says.
 pub fn frame_at(cells: &[usize], table: &[usize], numbers: &[usize], i: usize) -> Frame
-    requires { ⌜ (512 ≤ length (now cells)) × ((i < 64) × (14 ≤ length (now numbers))) ⌝ }
-    requires { ⌜ isBare (sourceBy (now numbers)) (segmentAt (now cells) i) ≡ false ⌝ }
+    requires { ⌜ (512 ≤ length (now cells)) × ((i < 64) × (rowLength ≤ length (now numbers))) ⌝ }
+    requires { ⌜ isBare (bareBy (now numbers)) (segmentAt (now cells) i) ≡ false ⌝ }
     requires { ⌜ 3 * i + 3 ≤ length (now table) ⌝ }
     ensures { λ r. ⌜ r ≡ frameBy (formatOf (levelBy (now (numbers .entry))) (segmentAt (now (cells .entry)) i)) (rowAt (now (table .entry)) i) ⌝ }
 {

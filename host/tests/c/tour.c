@@ -146,6 +146,12 @@ int main(void)
     /* A wall's name in Japanese: two wide characters, a space, `B3`. */
     const struct pralakuon_record named = {.level = PRALAKUON_LEVEL_INFO, .message = pralakuon_text_of("北壁 B3")};
 
+    /* What firmware sends when a self-test fails: the two values are laid out, in a line with newlines in it. */
+    const struct pralakuon_record failed = {
+        .level = PRALAKUON_LEVEL_ERROR,
+        .message = pralakuon_text_of("self-test failed\n left: `1.25`\nright: `1.5`"),
+    };
+
     show_version();
     show_template("[{L}] {s}", PRALAKUON_PLAIN);
     show_template("{t} {s}", PRALAKUON_PLAIN);
@@ -162,6 +168,7 @@ int main(void)
     show_line("{d:>6} {s}", PRALAKUON_PLAIN, &headed, 12); /* these settings know no head */
     show_line("{s:9}|", PRALAKUON_PLAIN, &named, 14);
     show_line("{s:9}|", PRALAKUON_PLACES, &named, 14); /* its five characters take seven places */
+    show_line("[{L}] {s}", PRALAKUON_PLAIN, &failed, 57);
     show_visible("\033[1m[\033[31mERROR\033[0m\033[1m]  \033[0m|hello");
     show_sheet(records, 3, 512);
     show_sheet(records, 3, 81);

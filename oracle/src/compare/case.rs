@@ -4,7 +4,9 @@ use super::calls::{self, Owed};
 use super::heads::{Judged, Way};
 use super::listed::Listed;
 use super::places::Placed;
+use super::reports::Reported;
 use super::ruled::{Ruled, Strictly};
+use crate::reports::Borne;
 use crate::ruling::{self, line::without_sequences, Names};
 use crate::sheet::{write_bodies, Layout, Record, Sheet, COLOUR, PLACES, STRAIGHT, STRICT};
 use crate::strict;
@@ -41,12 +43,21 @@ pub struct Seen {
     pub heads: Vec<Judged>,
     /// Lines in the places rule.
     pub places: Vec<Placed>,
+    /// Lines whose message has the marks of a comparison report.
+    pub reports: Vec<Reported>,
 }
 
 impl Seen {
     fn template(&mut self, template: &[u8], ruled: &Ruled) {
         self.strictly.push(ruled.seen());
         self.ways.extend(ruled.ways().iter().map(|way| (*way, template.to_vec())));
+    }
+
+    /// A line that the crate judged, of the record as it is or without these reasons.
+    pub fn line(&mut self, record: &Record, settings: u8, borne: Option<Borne>, reasons: &[Listed]) {
+        self.listed.extend(reasons);
+        self.listed.extend(borne.and_then(Listed::of));
+        self.reports.extend(Reported::of(record, settings, borne, reasons));
     }
 }
 

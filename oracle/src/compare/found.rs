@@ -5,6 +5,7 @@ use super::heads::{Judged, Way};
 use super::listed;
 use super::make::KINDS;
 use super::places::Placed;
+use super::reports::Reported;
 use super::ruled::Strictly;
 use std::collections::{BTreeMap, BTreeSet};
 
@@ -28,6 +29,8 @@ pub struct Found {
     heads: [u64; Judged::NAMES.len()],
     /// Lines in the places rule, by what it makes of them.
     places: [u64; Placed::NAMES.len()],
+    /// Lines whose message has the marks of a comparison report, by who judges them.
+    reports: [u64; Reported::NAMES.len()],
     parted: BTreeSet<u64>,
     texts: BTreeMap<u64, String>,
 }
@@ -44,6 +47,7 @@ impl Found {
         seen.ways.iter().for_each(|(way, template)| self.count_way(*way, 1, (template.len(), template.clone())));
         seen.heads.iter().for_each(|judged| self.heads[*judged as usize] += 1);
         seen.places.iter().for_each(|placed| self.places[*placed as usize] += 1);
+        seen.reports.iter().for_each(|reported| self.reports[*reported as usize] += 1);
     }
 
     fn count_way(&mut self, way: Way, count: u64, template: Least) {
@@ -69,6 +73,7 @@ impl Found {
         sum(&mut self.listed, &other.listed);
         sum(&mut self.heads, &other.heads);
         sum(&mut self.places, &other.places);
+        sum(&mut self.reports, &other.reports);
         for (way, (count, least)) in other.ways {
             self.count_way(way, count, least);
         }
@@ -94,6 +99,7 @@ impl Found {
         }
         print_counts("line with d as a name", &Judged::NAMES.map(str::to_string), &self.heads);
         print_counts("line in the places rule", &Placed::NAMES.map(str::to_string), &self.places);
+        print_counts("line of a comparison", &Reported::NAMES.map(str::to_string), &self.reports);
         println!("{count} cases, {} differences not listed", self.parted.len());
         self.parted.is_empty()
     }

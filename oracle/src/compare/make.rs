@@ -9,6 +9,7 @@ mod letters;
 mod paths;
 mod places;
 mod records;
+mod reports;
 mod sheets;
 mod short;
 mod strict;
@@ -20,7 +21,7 @@ use crate::sample::cases;
 use crate::sample::random::Rng;
 use crate::sheet::{Record, Sheet, UNKNOWN as UNKNOWN_LEAST};
 
-pub const KINDS: [&str; 11] = [
+pub const KINDS: [&str; 12] = [
     "short templates",
     "long templates",
     "records",
@@ -32,15 +33,17 @@ pub const KINDS: [&str; 11] = [
     "strict",
     "heads",
     "places",
+    "reports",
 ];
 
-/// The last of them.
+/// The last two of them.
 const PLACES: usize = 10;
+const REPORTS: usize = 11;
 
 /// Places in `KINDS`. Short templates are cheap, and so many turns show all of up to five tokens in ten million cases.
 const TURNS: [usize; 64] = [
-    0, 1, 0, 2, 0, 3, 0, 0, 8, 0, 2, 0, 4, 0, 0, 7, 0, 9, 0, 0, 10, 0, 7, 0, 3, 0, 0, 9, 0, 2, 5, 0, //
-    0, 1, 0, 2, 0, 3, 0, 0, 8, 0, 10, 0, 4, 0, 0, 7, 0, 8, 0, 0, 1, 0, 9, 0, 10, 0, 0, 1, 0, 2, 6, 0,
+    0, 1, 0, 2, 0, 3, 0, 0, 8, 0, 11, 0, 4, 0, 0, 7, 0, 9, 0, 0, 10, 0, 7, 0, 3, 0, 0, 9, 0, 2, 5, 0, //
+    0, 1, 0, 2, 0, 3, 0, 0, 8, 0, 10, 0, 4, 0, 0, 11, 0, 8, 0, 0, 1, 0, 9, 0, 10, 0, 0, 11, 0, 2, 6, 0,
 ];
 
 /// Settings bytes with a bit that is not known.
@@ -48,6 +51,9 @@ const UNKNOWN: &[&u8] = &[&32, &33, &36, &40, &48, &63, &64, &80, &96, &128, &12
 
 /// The places rule is asked for in one case of so many.
 const PLACES_ONE_IN: u64 = 5;
+
+/// A record of chance has the message of a comparison report, or nearly, in one case of so many.
+const REPORT_ONE_IN: usize = 6;
 
 /// Widths beyond a block of 128 bytes, in which characters are counted.
 const WIDE: &[&str] = &[
@@ -123,6 +129,13 @@ pub fn places_case(seed: u64, index: u64) -> (usize, Case) {
     (PLACES, places::case(&mut rng(seed, index)))
 }
 
+/// A case of chance with comparison reports, and what is nearly one; in the places rule as well as often as others are.
+pub fn report_case(seed: u64, index: u64) -> (usize, Case) {
+    let mut case = reports::case(&mut rng(seed, index));
+    in_places(index, &mut case);
+    (REPORTS, case)
+}
+
 fn systematic(index: u64, template: &str, record: Vec<u8>) -> Case {
     Case::Line { template: template.into(), record, unknown: UNKNOWN_LEAST, places: is_in_places(index) }
 }
@@ -130,6 +143,12 @@ fn systematic(index: u64, template: &str, record: Vec<u8>) -> Case {
 /// Each time one place further on, so that none of the turns in which cases are made keeps step with it.
 fn is_in_places(index: u64) -> bool {
     (index + index / PLACES_ONE_IN) % PLACES_ONE_IN == 0
+}
+
+fn in_places(index: u64, case: &mut Case) {
+    if let Case::Line { places, .. } = case {
+        *places |= is_in_places(index);
+    }
 }
 
 /// Chance of its own for each case.
@@ -165,11 +184,10 @@ impl Maker {
             7 => with_letters(&mut rng),
             8 => strictly(&mut rng),
             9 => with_heads(&mut rng),
-            _ => places::case(&mut rng),
+            PLACES => places::case(&mut rng),
+            _ => reports::case(&mut rng),
         };
-        if let Case::Line { places, .. } = &mut case {
-            *places |= is_in_places(index);
-        }
+        in_places(index, &mut case);
         (kind, case)
     }
 
@@ -201,9 +219,12 @@ fn any_record(rng: &mut Rng) -> Vec<u8> {
     records::record(rng, layout)
 }
 
-/// In either layout, and not refused.
+/// In either layout, and mostly not refused.
 fn right_record(rng: &mut Rng) -> Vec<u8> {
-    let record = rng.record();
+    let mut record = rng.record();
+    if rng.one_in(REPORT_ONE_IN) {
+        record.message = rng.report();
+    }
     heads::written(rng, record)
 }
 

@@ -6,9 +6,11 @@ use super::case::Seen;
 use super::heads::{self, Judged, Way};
 use super::listed::{self, Listed};
 use super::places::{placed, Asked};
+use super::reports::Reported;
 use crate::head::{self, StandIn};
 use crate::judge::{self, Shown};
 use crate::kelvin;
+use crate::reports::borne_out;
 use crate::ruling::line::{without_sequences, Line};
 use crate::ruling::{self, Names, Reading};
 use crate::sheet::{Layout, Record, PLACES, STRAIGHT, STRICT};
@@ -133,6 +135,7 @@ impl Ruled {
             }
             Judge::Alone => {
                 seen.heads.push(Judged::Alone);
+                seen.reports.extend(Reported::alone(record));
                 seen.places.extend(placed(segments, record, settings, [&crates, &straight])?);
             }
         }
@@ -220,23 +223,22 @@ pub fn judged_line(
     seen: &mut Seen,
 ) -> Result<(), String> {
     let shown = judge::shown(asked, record);
-    if is(&shown, &line.text) {
+    let borne = borne_out(&shown, segments, record, settings, line);
+    if borne.is_some() {
+        seen.line(record, settings, borne, &[]);
         return Ok(());
     }
-    let reasons = listed::reasons(segments, record, line);
+    let reasons = listed::reasons(segments, record, settings);
     let changed = listed::without(&reasons, record);
     let same = ruling::line(segments, &changed, settings);
     let again = judge::shown(asked, &changed);
-    let explained = is(&again, &same.text) || again == Shown::Panic && same.widest > listed::MOST_WIDTH;
+    let borne = borne_out(&again, segments, &changed, settings, &same);
+    let explained = borne.is_some() || again == Shown::Panic && listed::is_too_wide(segments, &changed, settings);
     if reasons.is_empty() || !explained {
         return Err(format!("line, settings {settings}\n  the crate: {shown:?}\n  ruled: {:?}", line.text));
     }
-    seen.listed.extend(reasons);
+    seen.line(record, settings, borne, &reasons);
     Ok(())
-}
-
-fn is(shown: &Shown, line: &str) -> bool {
-    matches!(shown, Shown::Line(bytes) if bytes == line.as_bytes())
 }
 
 /// The crate has no straight mode. Where it inserts nothing the two modes are one; and without byte 27 in any text,

@@ -1,6 +1,7 @@
-//! Document 01's line of a record, in all modes, with document 02's serial of a head (E7), in both rules for counting (E14).
-//! The crate judges it wherever the crate has an answer.
+//! Document 01's line of a record, in all modes, with document 02's serial of a head (E7), in both rules for counting (E14),
+//! and with comparison reports laid out (E10). The crate judges it wherever the crate has an answer.
 
+use super::report::{self, Report, Run};
 use super::wide::places;
 use crate::sheet::{Record, COLOUR, HOST, PLACES, STRAIGHT};
 use crate::tree::{Alignment, Colour, Format, Kind, Padding, Segment, Specifier, STYLES};
@@ -9,6 +10,13 @@ const RESET: &str = "\x1b[0m";
 
 /// "`<head>` when absent": a serial that is there and empty shows nothing.
 pub const NO_HEAD: &str = "<head>";
+
+/// What the two values of a report are shown in: places in `COLOURS`.
+const RED: Colour = Colour::Fixed(1);
+const GREEN: Colour = Colour::Fixed(2);
+
+/// The set of styles that has nothing but the first of `STYLES`.
+const BOLD: u8 = 1;
 
 /// ERROR to TRACE: name and colour code.
 const LEVELS: [(&str, u8); 5] = [("ERROR", 31), ("WARN", 33), ("INFO", 32), ("DEBUG", 97), ("TRACE", 90)];
@@ -23,9 +31,14 @@ pub struct Line {
 
 /// The line of a record that has no refusal.
 pub fn line(segments: &[Segment], record: &Record, settings: u8) -> Line {
-    let mut builder = Builder { record, settings, inserted: false, widest: 0 };
+    line_with(segments, record, settings, report::of(record).as_ref())
+}
+
+/// The same with the message laid out in the runs of this report.
+pub fn line_with(segments: &[Segment], record: &Record, settings: u8, report: Option<&Report>) -> Line {
+    let mut builder = Builder { record, report, settings, inserted: false, widest: 0 };
     let text = match record.level {
-        0 => text_of(&record.message).to_string(),
+        0 => builder.message_alone(),
         _ => builder.joined(segments),
     };
     Line { text, inserted: builder.inserted, widest: builder.widest }
@@ -55,6 +68,8 @@ fn text_of(field: &[u8]) -> &str {
 
 struct Builder<'a> {
     record: &'a Record,
+    /// Where the message is laid out.
+    report: Option<&'a Report<'a>>,
     settings: u8,
     inserted: bool,
     widest: usize,
@@ -73,7 +88,9 @@ impl Builder<'_> {
                 let text = self.joined(members);
                 self.formatted(text, format, 0, format.colour)
             }
-            Kind::Specifier(Specifier::Log) if self.record.source == HOST => text_of(&self.record.message).to_string(),
+            Kind::Specifier(Specifier::Log) if self.record.source == HOST || self.report.is_some() => {
+                self.message_alone()
+            }
             Kind::Specifier(specifier) => {
                 let (width, colour) = match specifier {
                     Specifier::LogLevel => (5, format.colour.or(Some(Colour::Severity))),
@@ -83,6 +100,43 @@ impl Builder<'_> {
                 self.formatted(self.field(*specifier), format, width, colour)
             }
         }
+    }
+
+    /// Without a width, a style or a colour of its own.
+    fn message_alone(&mut self) -> String {
+        match self.report {
+            Some(report) => self.laid_out(report),
+            None => text_of(&self.record.message).to_string(),
+        }
+    }
+
+    fn laid_out(&mut self, report: &Report) -> String {
+        let [left, right] = &report.runs;
+        [
+            self.run(&report.head, BOLD, None),
+            "\n".to_string(),
+            self.run("diff", BOLD, None),
+            " ".to_string(),
+            self.run("< left", 0, Some(RED)),
+            " / ".to_string(),
+            self.run("right >", 0, Some(GREEN)),
+            "\n".to_string(),
+            self.run("<", 0, Some(RED)),
+            self.value(left, RED),
+            "\n".to_string(),
+            self.run(">", 0, Some(GREEN)),
+            self.value(right, GREEN),
+        ]
+        .concat()
+    }
+
+    /// What differs is bold.
+    fn value(&mut self, runs: &[Run], colour: Colour) -> String {
+        runs.iter().map(|run| self.run(run.text, if run.shared { 0 } else { BOLD }, Some(colour))).collect()
+    }
+
+    fn run(&mut self, text: &str, styles: u8, colour: Option<Colour>) -> String {
+        self.formatted(text.to_string(), &Format { styles, ..Format::default() }, 0, colour)
     }
 
     fn field(&self, specifier: Specifier) -> String {
@@ -122,11 +176,12 @@ impl Builder<'_> {
     /// None where no colour or style applies.
     fn prefix(&self, format: &Format, colour: Option<Colour>) -> Option<String> {
         let styles = (0..5).filter(|i| format.styles >> i & 1 == 1).map(|i| STYLES[i].2);
-        let level = usize::from(self.record.level) - 1;
+        // A print without level shows nothing but runs, whose colours are fixed.
+        let severity = || LEVELS[usize::from(self.record.level) - 1].1;
         let foreground = match colour {
             Some(Colour::Fixed(place)) => Some(30 + place as u8),
-            Some(Colour::Severity) => Some(LEVELS[level].1),
-            Some(Colour::WarnError) if level < 2 => Some(LEVELS[level].1),
+            Some(Colour::Severity) => Some(severity()),
+            Some(Colour::WarnError) if self.record.level <= 2 => Some(severity()),
             _ => None,
         };
         let codes: Vec<String> = styles.chain(foreground).map(|code| code.to_string()).collect();

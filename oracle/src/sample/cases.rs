@@ -42,6 +42,7 @@ pub fn all(seed: u64) -> Vec<Case> {
     maker.strict();
     maker.heads();
     maker.places();
+    maker.reports();
     maker.cases
 }
 
@@ -410,15 +411,7 @@ impl Maker {
         for template in ["{f}{s}", "{ff:9}|{s}", "{x{f}}{s}"] {
             self.parted(LISTED, "listed", template, Record { mask: FILE, ..info() });
         }
-        let diff = "assertion\n left: `12`\nright: `13`";
-        for (template, level) in [("{s}", 3), ("[{L}] {s:bold:40}|", 1), ("{[{s}]%red}", 2), ("{s}", 0)] {
-            self.parted(LISTED, "listed", template, Record { level, ..saying(diff) });
-        }
         let sequences = Record { message: b"\x1b[0m".repeat(1024), ..info() };
         self.parted(LISTED, "listed", format!("{{{}}}", "{s}".repeat(16)), sequences);
-        // Near to it: a host's message, and one of two lines.
-        let host = Record { source: HOST, ..saying(diff) };
-        self.alike("listed", COLOUR, "[{L}] {s:bold:40}|", vec![host]);
-        self.alike("listed", COLOUR, "{s:bold:40}|", vec![saying(" left: `1`\nright: `2`")]);
     }
 }

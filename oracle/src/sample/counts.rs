@@ -14,7 +14,7 @@ pub struct Counts {
 
 impl Counts {
     /// Counts a case once under each thing that it touches.
-    pub fn add(&mut self, case: &Case, answer: &Answer) {
+    pub fn add(&mut self, case: &Case, answer: &Answer, ruled: bool) {
         let mut touched = vec![
             ("N", format!("{:3}", case.number)),
             ("family", case.family.to_string()),
@@ -32,6 +32,7 @@ impl Counts {
         if let Answer::Read(_) = answer {
             let dump = dump(&case.sheet.template);
             touched.push(("groups in groups", group_depth(&dump).to_string()));
+            touched.push(("lines", if ruled { "ruled" } else { "the crate's" }.to_string()));
             touch_segments(&dump, &mut touched);
         }
         let text = String::from_utf8_lossy(&case.sheet.template).into_owned();

@@ -3,7 +3,7 @@ use mathlib.Core.Path.{sym, _∙_}
 use native.Mathlib.Omega.{arith}
 use Rattle.buffer.specs.Bytes.{part}
 use Rattle.buffer.proofs.Parts.{part-length}
-use Rattle.line.proofs.Placing.{written-short, written-whole}
+use Rattle.line.proofs.Written.{written-short, written-whole}
 use borrow.Author.Needs.{needs}
 use Rattle.answer.proofs.put_part.Statement.{statement}
 use Rattle.answer.proofs.put_part.Tie as tie

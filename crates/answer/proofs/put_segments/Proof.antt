@@ -1,38 +1,105 @@
 -- `answer::put_segments` meets its contract. Assumes nothing.
-use mathlib.Core.Path.{refl, ap, _∙_}
+use Prim.Native.Nat.{ℕ}
+use mathlib.Core.Path.{_≡_, refl, sym, ap, subst, _∙_}
+use mathlib.Core.List.{List, [], _∷_}
+use mathlib.Core.Logic.{⊎-elim}
 use native.Mathlib.Omega.{arith}
-use mathlib.Core.List.{[], _∷_}
 use lib.ListN.{length}
 use Rattle.buffer.specs.Buffer.{written}
 use Rattle.segments.specs.Pool.{chainAt}
+use Rattle.record.specs.declared.Places.{Places}
 use Rattle.record.specs.Records.{Record}
-use Rattle.leaves.specs.Places.{placesOf}
+use Rattle.comparisons.specs.declared.Spans.{Spans}
+use Rattle.comparisons.specs.declared.Compared.the-variants.{Nothing, At}
+use Rattle.fields.specs.Worded.{Compares}
+use Rattle.leaves.specs.Places.{rowLength, placesOf, spansOf, hasComparison, comparedBy}
 use Rattle.rows.specs.Texts.{segmentsText}
+use Rattle.answer.proofs.Messages.{from-numbers}
 use Rattle.answer.proofs.Answering.{writable, record-by}
 use borrow.Author.Needs.{needs}
 use Rattle.answer.proofs.put_segments.Statement.{statement}
 use Rattle.answer.proofs.put_segments.Tie as tie
 
+-- the row of a record's numbers, with those of a comparison
+abbrev row : Places → Spans → List ℕ
+row p x =
+    p .source ∷ p .level ∷ p .mask ∷ p .line ∷ p .«file_from» ∷ p .«file_to» ∷ p .«module_from» ∷ p .«module_to» ∷ p .«timestamp_from» ∷ p .«timestamp_to»
+    ∷ p .«message_from» ∷ p .«message_to» ∷ p .«serial_from» ∷ p .«serial_to»
+    ∷ x .head ∷ x .left .from ∷ x .left .begun ∷ x .left .rest ∷ x .left .to ∷ x .right .from ∷ x .right .begun ∷ x .right .rest ∷ x .right .to ∷ []
+
+-- noughts for none
+abbrev none : Spans
+none = record {
+  head = 0;
+  left = record { from = 0; begun = 0; rest = 0; to = 0 };
+  right = record { from = 0; begun = 0; rest = 0; to = 0 };
+}
+
+-- the numbers tell the record's places, and the comparison that its message is
+record Told (d : List ℕ) (p : Places) (numbers : List ℕ) : Type 0 where
+  long : length numbers ≡ rowLength
+  places : placesOf numbers ≡ p
+  compares : Compares d p (comparedBy numbers)
+
+told-at : (d : List ℕ) (p : Places) (x : Spans) → Compares d p (At x) → Told d p (row p x)
+unfolding placesOf comparedBy hasComparison spansOf
+told-at d p x k = record {
+  long = refl;
+  places = refl;
+  compares = subst (Compares d p) (sym (from-numbers x (p .«message_from») (p .«message_to») (k .within))) k;
+}
+
+told-none : (d : List ℕ) (p : Places) → Compares d p Nothing → Told d p (row p none)
+unfolding placesOf comparedBy hasComparison spansOf
+told-none d p k = record { long = refl; places = refl; compares = k }
+
+-- whichever way they were written
+told : (c : tie.At-match-came) → Told (c .before .before .before .before .before .args .d .now) (c .before .before .before .before .before .args .p) (c .match .numbers)
+told c =
+    let s = c .before .before .before .before .before in
+    let d = s .args .d .now in
+    let p = s .args .p in
+    ⊎-elim
+    (λ w. subst (Told d p) (sym (w .5)) (told-at d p (w .1 .given .0 .0) (subst (Compares d p) (w .1 .given .1) (s .pre .1))))
+    (λ w. subst (Told d p) (sym (w .2)) (told-none d p (subst (Compares d p) (w .1 .given .1) (s .pre .1))))
+    (c .match .came)
+
 slice-aggregate-write-line : tie.Need-slice-aggregate-write-line
-slice-aggregate-write-line c = search needs
+slice-aggregate-write-line c = sym (told (c .before) .long)
 
 write-line-requires : tie.Need-write-line-requires
-unfolding placesOf
 write-line-requires c κs =
-    let p = c .before .before .before .before .before .before in
-    writable (p .args .cells .now) (p .args .t .now) (p .args .d .now) (p .args .n) (p .args .p) _ (p .pre) refl (omega arith)
-
-same-length : tie.Need-same-length
-same-length c = search needs
+    let m = c .before .before in
+    let s = m .before .before .before .before .before in
+    let a = s .args in
+    let k = told m in
+    writable (a .cells .now) (a .t .now) (a .d .now) (a .n) (a .p) (m .match .numbers) (s .pre .0) (k .places) (omega (arith, k .long)) (k .compares)
 
 returns : tie.Need-returns
-unfolding placesOf
 returns c =
-    let p = c .before .before .before .before .before .before .before .before .before in
-    let e = record-by (p .args .cells .now) (p .args .t .now) (p .args .d .now) (p .args .n) (p .args .p) (p .args .p .source ∷ p .args .p .level ∷ p .args .p .mask ∷ p .args .p .line ∷ p .args .p .«file_from» ∷ p .args .p .«file_to» ∷ p .args .p .«module_from» ∷ p .args .p .«module_to» ∷ p .args .p .«timestamp_from» ∷ p .args .p .«timestamp_to» ∷ p .args .p .«message_from» ∷ p .args .p .«message_to» ∷ p .args .p .«serial_from» ∷ p .args .p .«serial_to» ∷ []) (p .pre) refl in
-    let x = ap (λ (r : Record). segmentsText (p .args .s) (p .args .t .now) r (chainAt (p .args .cells .now) (p .args .n))) e in
-    (c .before .before .write-line .ensures .0 ∙ ap length x, c .before .before .write-line .ensures .1 ∙ ap (written (p .args .out .now)) x)
+    let m = c .before .before .before .before .before in
+    let s = m .before .before .before .before .before in
+    let a = s .args in
+    let e = record-by (a .cells .now) (a .t .now) (a .d .now) (a .n) (a .p) (m .match .numbers) (s .pre .0) (told m .places) in
+    let x = ap (λ (r : Record). segmentsText (a .s) (a .t .now) r (chainAt (a .cells .now) (a .n))) e in
+    (c .before .before .write-line .ensures .0 ∙ ap length x, c .before .before .write-line .ensures .1 ∙ ap (written (a .out .now)) x)
 
 pub put-segments-spec : {M : Type 1} → statement M
 put-segments-spec =
-    tie.close (tie.spec slice-aggregate-write-line write-line-requires same-length returns)
+    tie.close
+    (tie.spec
+    (λ c. search needs)
+    (λ c. search needs)
+    (λ c. search needs)
+    (λ c. search needs)
+    (λ c. search needs)
+    (λ c. search needs)
+    (λ c. search needs)
+    (λ c. search needs)
+    (λ c. search needs)
+    (λ c. search needs)
+    (λ c. search needs)
+    slice-aggregate-write-line
+    write-line-requires
+    (λ c. search needs)
+    returns)

@@ -12,7 +12,7 @@ use Rattle.paths.proofs.Pieces.{within-at}
 use Rattle.measure.specs.Measures.{grown}
 use Rattle.fields.specs.Wordings.{nameText}
 use Rattle.file_name.proofs.Slashing.{name-at, name-nothing, name-room}
-use Rattle.file_name.proofs.Turns.{small-on, len-on, grown-on}
+use Rattle.measure.proofs.Turns.{small-on, len-on, grown-on}
 
 first-shown-requires : tie.Need-first-shown-requires
 first-shown-requires c κs = search needs

@@ -12,7 +12,7 @@ use Rattle.paths.proofs.Pieces.{within-at}
 use Rattle.measure.specs.declared.Measure.{Measure}
 use Rattle.measure.specs.Measures.{grown, Small}
 use Rattle.file_name.proofs.Slashing.{slashed-at, slashed-nothing, slashed-room}
-use Rattle.file_name.proofs.Turns.{small-on, len-on, grown-turn, grown-end}
+use Rattle.measure.proofs.Turns.{small-on, len-on, grown-turn, grown-end}
 
 abbrev Inv-loop : tie.InvT-loop
 Inv-loop d i e k₀ b₀ t10 k b =

@@ -14,7 +14,7 @@ use Rattle.paths.specs.Paths.{slashed}
 use Rattle.paths.specs.Remaining.{remaining}
 use Rattle.paths.proofs.Pieces.{within-at}
 use Rattle.file_name.proofs.Slashing.{name-at, name-nothing, name-room}
-use Rattle.file_name.proofs.Turns.{put-second}
+use Rattle.measure.proofs.Turns.{put-second}
 
 first-shown-requires : tie.Need-first-shown-requires
 first-shown-requires c κs = search needs

@@ -12,7 +12,7 @@ use Rattle.paths.specs.Paths.{slashed}
 use Rattle.paths.specs.Remaining.{remaining}
 use Rattle.paths.proofs.Pieces.{within-at}
 use Rattle.file_name.proofs.Slashing.{slashed-at, slashed-nothing, slashed-room}
-use Rattle.file_name.proofs.Turns.{put-second, put-turn, put-end}
+use Rattle.measure.proofs.Turns.{put-second, put-turn, put-end}
 
 abbrev Inv-loop : tie.InvT-loop
 Inv-loop d i e out₀ at k₀ y₀ t11 out k y =

@@ -16,16 +16,17 @@ use Rattle.colour.specs.Sequences.{reinserted}
 use Rattle.colour.specs.Looks.{prefix}
 use Rattle.segments.specs.Pool.{segmentAt, chainAt}
 use Rattle.members.specs.Links.{OnChain}
-use Rattle.leaves.specs.Places.{recordBy, sourceBy}
-use Rattle.rows.specs.Texts.{segmentText, segmentsText, rawText, isBare}
+use Rattle.leaves.specs.Places.{recordBy}
+use Rattle.rows.specs.Texts.{segmentText, segmentsText, rawText, bareBy, isBare}
 use Rattle.rows.specs.Rows.{rowAt}
 use Rattle.members.proofs.Linking.{on-end}
 use Rattle.rows.proofs.Linking.{on-shorter, member-room}
 use Rattle.rows.proofs.Depths.{group-deep, members-low, member-low}
 use Rattle.members.proofs.Forwards.{forward-less, After, member-next}
 use Rattle.rows.proofs.Segments.{raw-of-text, raw-of-members, raw-of-specifier, written-none, written-step}
-use Rattle.rows.proofs.Framing.{opening, Framed, bare-text, framed-by, framed-length, inserted-none}
-use Rattle.line.proofs.Placing.{put-plain, ending-none, ending-four, dressed-place, put-dressed}
+use Rattle.dress.proofs.Framing.{opening, Framed, framed-length, inserted-none}
+use Rattle.rows.proofs.Framing.{bare-text, framed-by}
+use Rattle.dress.proofs.Placing.{put-plain, ending-none, ending-four, dressed-place, put-dressed}
 use Rattle.rows.proofs.Tables.{readable-less, tabled-less}
 use Rattle.line.proofs.+put_join+put_raw+put_seg.{statement}
 use Rattle.line.proofs.+put_join+put_raw+put_seg.Tie.{close}
@@ -175,7 +176,7 @@ put-raw-put-field-requires : (t : ℕ) → put-raw-lts.Need-put-field-requires (
 put-raw-put-field-requires t c κs = let p = c .before .before .before .before .before .before .before .before .before .before .before .before in let s = p .args .s in let t₀ = p .args .t .now in let d = p .args .d .now in let n = p .args .numbers .now in let cells = p .args .cells .now in let r = recordBy n d in
     let i = p .args .i in
     let k = raw-of-specifier s t₀ r cells i _ (sym (c .before .before .before .before .kind-at .ensures) ∙ c .before .before .kind .given .1) in
-    ((p .pre .1 .0 .row, p .pre .1 .0 .places), omega (arith, p .pre .1 .1 .1 .0, ap length k))
+    (p .pre .1 .0 .lent, omega (arith, p .pre .1 .1 .1 .0, ap length k))
 
 put-raw-same-length : (t : ℕ) → put-raw-lts.Need-same-length (put-raw-calls t) (put-raw-at t) put-raw.Post
 put-raw-same-length t c = search needs
@@ -206,12 +207,12 @@ put-raw-returns-3 t c = let p = c .before .before .before .before .before .befor
 
 put-seg-is-bare-requires : (t : ℕ) → put-seg-lts.Need-is-bare-requires (put-seg-calls t) (put-seg-at t) put-seg.Post
 put-seg-is-bare-requires t c κs = let p = c .before .before .before .before .before .before .before in
-    (p .pre .1 .0 .pool, (omega (arith, p .pre .1 .0 .few), p .pre .1 .0 .row))
+    (p .pre .1 .0 .pool, (omega (arith, p .pre .1 .0 .few), p .pre .1 .0 .lent .row))
 
 put-seg-put-raw-requires : (t : ℕ) → put-seg-lts.Need-put-raw-requires (put-seg-calls t) (put-seg-at t) put-seg.Post
 put-seg-put-raw-requires t c κs = let p = c .before .before .before .before .before .before .before .before .before .before in let s = p .args .s in let t₀ = p .args .t .now in let d = p .args .d .now in let n = p .args .numbers .now in let cells = p .args .cells .now in let table = p .args .table .now in let r = recordBy n d in
     let i = p .args .i in let x = segmentAt cells i in
-    let k = bare-text s t₀ d n x (sym (c .before .before .is-bare .ensures) ∙ c .before .if1 .taken) in
+    let k = bare-text s t₀ d n (p .pre .1 .0 .lent) x (sym (c .before .before .is-bare .ensures) ∙ c .before .if1 .taken) in
     (omega (arith, p .pre .0), ((p .pre .1 .0), (tabled-less s t₀ r cells table (i + 1) i (omega arith) (p .pre .1 .1 .0), (omega (arith, p .pre .1 .1 .1 .0, ap length k), (p .pre .1 .1 .1 .1 .0, forward-less cells (p .args .links .now) (i + 1) i (omega arith) (p .pre .1 .1 .1 .1 .1))))))
 
 put-seg-same-length : (t : ℕ) → put-seg-lts.Need-same-length (put-seg-calls t) (put-seg-at t) put-seg.Post
@@ -220,14 +221,14 @@ put-seg-same-length t c = search needs
 put-seg-returns : (t : ℕ) → put-seg-lts.Need-returns (put-seg-calls t) (put-seg-at t) put-seg.Post
 put-seg-returns t c = let p = c .before .before .before .before .before .before .before .before .before .before .before .before .before in let s = p .args .s in let t₀ = p .args .t .now in let d = p .args .d .now in let n = p .args .numbers .now in let cells = p .args .cells .now in let o = p .args .out .now in let at = p .args .at in
     let i = p .args .i in let x = segmentAt cells i in
-    let k = bare-text s t₀ d n x (sym (c .before .before .before .before .before .is-bare .ensures) ∙ c .before .before .before .before .if1 .taken) in
+    let k = bare-text s t₀ d n (p .pre .1 .0 .lent) x (sym (c .before .before .before .before .before .is-bare .ensures) ∙ c .before .before .before .before .if1 .taken) in
     (omega (arith, c .before .before .put-raw .ensures .0, ap length k), c .before .before .put-raw .ensures .1 ∙ ap (putAt o at) (sym k))
 
 put-seg-frame-at-requires : (t : ℕ) → put-seg-lts.Need-frame-at-requires (put-seg-calls t) (put-seg-at t) put-seg.Post
 put-seg-frame-at-requires t c κs = let p = c .before .before .before .before .before .before .before .before .before in let n = p .args .numbers .now in let cells = p .args .cells .now in
     let i = p .args .i in let x = segmentAt cells i in
-    let q : isBare (sourceBy n) x ≡ false = sym (c .before .is-bare .ensures) ∙ c .if1 .left in
-    ((p .pre .1 .0 .pool, (omega (arith, p .pre .1 .0 .few), p .pre .1 .0 .row)), (q, omega (arith, p .pre .1 .1 .0 .room)))
+    let q : isBare (bareBy n) x ≡ false = sym (c .before .is-bare .ensures) ∙ c .if1 .left in
+    ((p .pre .1 .0 .pool, (omega (arith, p .pre .1 .0 .few), p .pre .1 .0 .lent .row)), (q, omega (arith, p .pre .1 .1 .0 .room)))
 
 put-seg-prefix-len-requires : (t : ℕ) → put-seg-lts.Need-prefix-len-requires (put-seg-calls t) (put-seg-at t) put-seg.Post
 put-seg-prefix-len-requires t c κs = tt
@@ -238,22 +239,22 @@ put-seg-pad-byte-requires t c κs = tt
 put-seg-fill-requires : (t : ℕ) → put-seg-lts.Need-fill-requires (put-seg-calls t) (put-seg-at t) put-seg.Post
 put-seg-fill-requires t c κs = let p = c .before .before .before .before .before .before .before .before .before .before .before .before .before .before .before .before in let s = p .args .s in let t₀ = p .args .t .now in let d = p .args .d .now in let n = p .args .numbers .now in let cells = p .args .cells .now in let table = p .args .table .now in let r = recordBy n d in
     let i = p .args .i in let x = segmentAt cells i in
-    let q : isBare (sourceBy n) x ≡ false = sym (c .before .before .before .before .before .before .before .before .is-bare .ensures) ∙ c .before .before .before .before .before .before .before .if1 .left in
-    let w = c .before .before .before .before .before .before .frame-at .result in let h : Framed s w (rawText s t₀ r x) (segmentText s t₀ r x) = framed-by s t₀ d n x w (rowAt table i) q (p .pre .1 .1 .0 .row i (omega arith)) (c .before .before .before .before .before .before .frame-at .ensures) in let fl = framed-length s w (rawText s t₀ r x) (segmentText s t₀ r x) h in
+    let q : isBare (bareBy n) x ≡ false = sym (c .before .before .before .before .before .before .before .before .is-bare .ensures) ∙ c .before .before .before .before .before .before .before .if1 .left in
+    let w = c .before .before .before .before .before .before .frame-at .result in let h : Framed s w (rawText s t₀ r x) (segmentText s t₀ r x) = framed-by s t₀ d n (p .pre .1 .0 .lent) x w (rowAt table i) q (p .pre .1 .1 .0 .row i (omega arith)) (c .before .before .before .before .before .before .frame-at .ensures) in let fl = framed-length s w (rawText s t₀ r x) (segmentText s t₀ r x) h in
     omega (arith, p .pre .1 .1 .1 .0)
 
 put-seg-put-raw-requires-2 : (t : ℕ) → put-seg-lts.Need-put-raw-requires-2 (put-seg-calls t) (put-seg-at t) put-seg.Post
 put-seg-put-raw-requires-2 t c κs = let p = c .before .before .before .before .before .before .before .before .before .before .before .before .before .before .before .before .before .before .before .before in let s = p .args .s in let t₀ = p .args .t .now in let d = p .args .d .now in let n = p .args .numbers .now in let cells = p .args .cells .now in let table = p .args .table .now in let r = recordBy n d in
     let i = p .args .i in let x = segmentAt cells i in
-    let q : isBare (sourceBy n) x ≡ false = sym (c .before .before .before .before .before .before .before .before .before .before .before .before .is-bare .ensures) ∙ c .before .before .before .before .before .before .before .before .before .before .before .if1 .left in
-    let w = c .before .before .before .before .before .before .before .before .before .before .frame-at .result in let h : Framed s w (rawText s t₀ r x) (segmentText s t₀ r x) = framed-by s t₀ d n x w (rowAt table i) q (p .pre .1 .1 .0 .row i (omega arith)) (c .before .before .before .before .before .before .before .before .before .before .frame-at .ensures) in let fl = framed-length s w (rawText s t₀ r x) (segmentText s t₀ r x) h in
+    let q : isBare (bareBy n) x ≡ false = sym (c .before .before .before .before .before .before .before .before .before .before .before .before .is-bare .ensures) ∙ c .before .before .before .before .before .before .before .before .before .before .before .if1 .left in
+    let w = c .before .before .before .before .before .before .before .before .before .before .frame-at .result in let h : Framed s w (rawText s t₀ r x) (segmentText s t₀ r x) = framed-by s t₀ d n (p .pre .1 .0 .lent) x w (rowAt table i) q (p .pre .1 .1 .0 .row i (omega arith)) (c .before .before .before .before .before .before .before .before .before .before .frame-at .ensures) in let fl = framed-length s w (rawText s t₀ r x) (segmentText s t₀ r x) h in
     (omega (arith, p .pre .0), ((p .pre .1 .0), (tabled-less s t₀ r cells table (i + 1) i (omega arith) (p .pre .1 .1 .0), (omega (arith, p .pre .1 .1 .1 .0, c .before .before .before .fill .ensures .0, c .before .before .before .fill .kept .0), (p .pre .1 .1 .1 .1 .0, forward-less cells (p .args .links .now) (i + 1) i (omega arith) (p .pre .1 .1 .1 .1 .1))))))
 
 put-seg-fill-requires-2 : (t : ℕ) → put-seg-lts.Need-fill-requires-2 (put-seg-calls t) (put-seg-at t) put-seg.Post
 put-seg-fill-requires-2 t c κs = let p = c .before .before .before .before .before .before .before .before .before .before .before .before .before .before .before .before .before .before .before .before .before .before .before .before in let s = p .args .s in let t₀ = p .args .t .now in let d = p .args .d .now in let n = p .args .numbers .now in let cells = p .args .cells .now in let table = p .args .table .now in let r = recordBy n d in
     let i = p .args .i in let x = segmentAt cells i in
-    let q : isBare (sourceBy n) x ≡ false = sym (c .before .before .before .before .before .before .before .before .before .before .before .before .before .before .before .before .is-bare .ensures) ∙ c .before .before .before .before .before .before .before .before .before .before .before .before .before .before .before .if1 .left in
-    let w = c .before .before .before .before .before .before .before .before .before .before .before .before .before .before .frame-at .result in let h : Framed s w (rawText s t₀ r x) (segmentText s t₀ r x) = framed-by s t₀ d n x w (rowAt table i) q (p .pre .1 .1 .0 .row i (omega arith)) (c .before .before .before .before .before .before .before .before .before .before .before .before .before .before .frame-at .ensures) in let fl = framed-length s w (rawText s t₀ r x) (segmentText s t₀ r x) h in
+    let q : isBare (bareBy n) x ≡ false = sym (c .before .before .before .before .before .before .before .before .before .before .before .before .before .before .before .before .is-bare .ensures) ∙ c .before .before .before .before .before .before .before .before .before .before .before .before .before .before .before .if1 .left in
+    let w = c .before .before .before .before .before .before .before .before .before .before .before .before .before .before .frame-at .result in let h : Framed s w (rawText s t₀ r x) (segmentText s t₀ r x) = framed-by s t₀ d n (p .pre .1 .0 .lent) x w (rowAt table i) q (p .pre .1 .1 .0 .row i (omega arith)) (c .before .before .before .before .before .before .before .before .before .before .before .before .before .before .frame-at .ensures) in let fl = framed-length s w (rawText s t₀ r x) (segmentText s t₀ r x) h in
     omega (arith, p .pre .1 .1 .1 .0, c .before .before .before .before .before .before .before .fill .ensures .0, c .before .before .before .before .before .before .before .fill .kept .0, c .before .before .before .put-raw2 .ensures .0, c .before .before .before .put-raw2 .kept .1 .1 .1 .1 .1 .1 .1 .1 .1 .0)
 
 put-seg-same-length-2 : (t : ℕ) → put-seg-lts.Need-same-length-2 (put-seg-calls t) (put-seg-at t) put-seg.Post
@@ -262,8 +263,8 @@ put-seg-same-length-2 t c = search needs
 put-seg-returns-2 : (t : ℕ) → put-seg-lts.Need-returns-2 (put-seg-calls t) (put-seg-at t) put-seg.Post
 put-seg-returns-2 t c = let p = c .before .before .before .before .before .before .before .before .before .before .before .before .before .before .before .before .before .before .before .before .before .before .before .before .before .before .before in let s = p .args .s in let t₀ = p .args .t .now in let d = p .args .d .now in let n = p .args .numbers .now in let cells = p .args .cells .now in let table = p .args .table .now in let r = recordBy n d in let o = p .args .out .now in let at = p .args .at in
     let i = p .args .i in let x = segmentAt cells i in
-    let q : isBare (sourceBy n) x ≡ false = sym (c .before .before .before .before .before .before .before .before .before .before .before .before .before .before .before .before .before .before .before .is-bare .ensures) ∙ c .before .before .before .before .before .before .before .before .before .before .before .before .before .before .before .before .before .before .if1 .left in
-    let w = c .before .before .before .before .before .before .before .before .before .before .before .before .before .before .before .before .before .frame-at .result in let h : Framed s w (rawText s t₀ r x) (segmentText s t₀ r x) = framed-by s t₀ d n x w (rowAt table i) q (p .pre .1 .1 .0 .row i (omega arith)) (c .before .before .before .before .before .before .before .before .before .before .before .before .before .before .before .before .before .frame-at .ensures) in let fl = framed-length s w (rawText s t₀ r x) (segmentText s t₀ r x) h in
+    let q : isBare (bareBy n) x ≡ false = sym (c .before .before .before .before .before .before .before .before .before .before .before .before .before .before .before .before .before .before .before .is-bare .ensures) ∙ c .before .before .before .before .before .before .before .before .before .before .before .before .before .before .before .before .before .before .if1 .left in
+    let w = c .before .before .before .before .before .before .before .before .before .before .before .before .before .before .before .before .before .frame-at .result in let h : Framed s w (rawText s t₀ r x) (segmentText s t₀ r x) = framed-by s t₀ d n (p .pre .1 .0 .lent) x w (rowAt table i) q (p .pre .1 .1 .0 .row i (omega arith)) (c .before .before .before .before .before .before .before .before .before .before .before .before .before .before .before .before .before .frame-at .ensures) in let fl = framed-length s w (rawText s t₀ r x) (segmentText s t₀ r x) h in
     let p0 : length (opening s (w .format)) ≡ 0 = sym (c .before .before .before .before .before .before .before .before .before .before .before .before .before .before .prefix-len .ensures .0) ∙ c .before .before .before .before .before .before .before .before .before .before .before .before .before .if2 .taken in let en = ending-none (opening s (w .format)) p0 in
     let iz = c .before .before .fill2 .ensures .0 in let nz : w .inserted ≡ 0 = inserted-none s w (rawText s t₀ r x) (segmentText s t₀ r x) h p0 in (
       omega (arith, c .before .before .before .before .before .before .put-raw2 .ensures .0, c .before .before .before .before .before .before .before .before .before .before .fill .ensures .0),
@@ -273,36 +274,36 @@ put-seg-returns-2 t c = let p = c .before .before .before .before .before .befor
 put-seg-add-b : (t : ℕ) → put-seg-lts.Need-add-b (put-seg-calls t) (put-seg-at t) put-seg.Post
 put-seg-add-b t c = let p = c .before .before .before .before .before .before .before .before .before .before .before .before .before .before .before in let s = p .args .s in let t₀ = p .args .t .now in let d = p .args .d .now in let n = p .args .numbers .now in let cells = p .args .cells .now in let table = p .args .table .now in let r = recordBy n d in
     let i = p .args .i in let x = segmentAt cells i in
-    let q : isBare (sourceBy n) x ≡ false = sym (c .before .before .before .before .before .before .before .is-bare .ensures) ∙ c .before .before .before .before .before .before .if1 .left in
-    let w = c .before .before .before .before .before .frame-at .result in let h : Framed s w (rawText s t₀ r x) (segmentText s t₀ r x) = framed-by s t₀ d n x w (rowAt table i) q (p .pre .1 .1 .0 .row i (omega arith)) (c .before .before .before .before .before .frame-at .ensures) in let fl = framed-length s w (rawText s t₀ r x) (segmentText s t₀ r x) h in
+    let q : isBare (bareBy n) x ≡ false = sym (c .before .before .before .before .before .before .before .is-bare .ensures) ∙ c .before .before .before .before .before .before .if1 .left in
+    let w = c .before .before .before .before .before .frame-at .result in let h : Framed s w (rawText s t₀ r x) (segmentText s t₀ r x) = framed-by s t₀ d n (p .pre .1 .0 .lent) x w (rowAt table i) q (p .pre .1 .1 .0 .row i (omega arith)) (c .before .before .before .before .before .frame-at .ensures) in let fl = framed-length s w (rawText s t₀ r x) (segmentText s t₀ r x) h in
     omega (arith, p .pre .1 .1 .1 .0, p .good .1 .1 .1 .1 .1 .1 .1 .1 .1 .0 .0, c .before .before .prefix-len .ensures .0)
 
 put-seg-add-b-2 : (t : ℕ) → put-seg-lts.Need-add-b-2 (put-seg-calls t) (put-seg-at t) put-seg.Post
 put-seg-add-b-2 t c = let p = c .before .before .before .before .before .before .before .before .before .before .before .before .before .before .before in let s = p .args .s in let t₀ = p .args .t .now in let d = p .args .d .now in let n = p .args .numbers .now in let cells = p .args .cells .now in let table = p .args .table .now in let r = recordBy n d in
     let i = p .args .i in let x = segmentAt cells i in
-    let q : isBare (sourceBy n) x ≡ false = sym (c .before .before .before .before .before .before .before .is-bare .ensures) ∙ c .before .before .before .before .before .before .if1 .left in
-    let w = c .before .before .before .before .before .frame-at .result in let h : Framed s w (rawText s t₀ r x) (segmentText s t₀ r x) = framed-by s t₀ d n x w (rowAt table i) q (p .pre .1 .1 .0 .row i (omega arith)) (c .before .before .before .before .before .frame-at .ensures) in let fl = framed-length s w (rawText s t₀ r x) (segmentText s t₀ r x) h in
+    let q : isBare (bareBy n) x ≡ false = sym (c .before .before .before .before .before .before .before .is-bare .ensures) ∙ c .before .before .before .before .before .before .if1 .left in
+    let w = c .before .before .before .before .before .frame-at .result in let h : Framed s w (rawText s t₀ r x) (segmentText s t₀ r x) = framed-by s t₀ d n (p .pre .1 .0 .lent) x w (rowAt table i) q (p .pre .1 .1 .0 .row i (omega arith)) (c .before .before .before .before .before .frame-at .ensures) in let fl = framed-length s w (rawText s t₀ r x) (segmentText s t₀ r x) h in
     omega (arith, p .pre .1 .1 .1 .0, p .good .1 .1 .1 .1 .1 .1 .1 .1 .1 .0 .0, c .before .before .prefix-len .ensures .0)
 
 put-seg-add-b-3 : (t : ℕ) → put-seg-lts.Need-add-b-3 (put-seg-calls t) (put-seg-at t) put-seg.Post
 put-seg-add-b-3 t c = let p = c .before .before .before .before .before .before .before .before .before .before .before .before .before .before .before in let s = p .args .s in let t₀ = p .args .t .now in let d = p .args .d .now in let n = p .args .numbers .now in let cells = p .args .cells .now in let table = p .args .table .now in let r = recordBy n d in
     let i = p .args .i in let x = segmentAt cells i in
-    let q : isBare (sourceBy n) x ≡ false = sym (c .before .before .before .before .before .before .before .is-bare .ensures) ∙ c .before .before .before .before .before .before .if1 .left in
-    let w = c .before .before .before .before .before .frame-at .result in let h : Framed s w (rawText s t₀ r x) (segmentText s t₀ r x) = framed-by s t₀ d n x w (rowAt table i) q (p .pre .1 .1 .0 .row i (omega arith)) (c .before .before .before .before .before .frame-at .ensures) in let fl = framed-length s w (rawText s t₀ r x) (segmentText s t₀ r x) h in
+    let q : isBare (bareBy n) x ≡ false = sym (c .before .before .before .before .before .before .before .is-bare .ensures) ∙ c .before .before .before .before .before .before .if1 .left in
+    let w = c .before .before .before .before .before .frame-at .result in let h : Framed s w (rawText s t₀ r x) (segmentText s t₀ r x) = framed-by s t₀ d n (p .pre .1 .0 .lent) x w (rowAt table i) q (p .pre .1 .1 .0 .row i (omega arith)) (c .before .before .before .before .before .frame-at .ensures) in let fl = framed-length s w (rawText s t₀ r x) (segmentText s t₀ r x) h in
     omega (arith, p .pre .1 .1 .1 .0, p .good .1 .1 .1 .1 .1 .1 .1 .1 .1 .0 .0, c .before .before .prefix-len .ensures .0)
 
 put-seg-put-raw-requires-3 : (t : ℕ) → put-seg-lts.Need-put-raw-requires-3 (put-seg-calls t) (put-seg-at t) put-seg.Post
 put-seg-put-raw-requires-3 t c κs = let p = c .before .before .before .before .before .before .before .before .before .before .before .before .before .before .before .before in let s = p .args .s in let t₀ = p .args .t .now in let d = p .args .d .now in let n = p .args .numbers .now in let cells = p .args .cells .now in let table = p .args .table .now in let r = recordBy n d in
     let i = p .args .i in let x = segmentAt cells i in
-    let q : isBare (sourceBy n) x ≡ false = sym (c .before .before .before .before .before .before .before .before .is-bare .ensures) ∙ c .before .before .before .before .before .before .before .if1 .left in
-    let w = c .before .before .before .before .before .before .frame-at .result in let h : Framed s w (rawText s t₀ r x) (segmentText s t₀ r x) = framed-by s t₀ d n x w (rowAt table i) q (p .pre .1 .1 .0 .row i (omega arith)) (c .before .before .before .before .before .before .frame-at .ensures) in let fl = framed-length s w (rawText s t₀ r x) (segmentText s t₀ r x) h in
+    let q : isBare (bareBy n) x ≡ false = sym (c .before .before .before .before .before .before .before .before .is-bare .ensures) ∙ c .before .before .before .before .before .before .before .if1 .left in
+    let w = c .before .before .before .before .before .before .frame-at .result in let h : Framed s w (rawText s t₀ r x) (segmentText s t₀ r x) = framed-by s t₀ d n (p .pre .1 .0 .lent) x w (rowAt table i) q (p .pre .1 .1 .0 .row i (omega arith)) (c .before .before .before .before .before .before .frame-at .ensures) in let fl = framed-length s w (rawText s t₀ r x) (segmentText s t₀ r x) h in
     (omega (arith, p .pre .0), ((p .pre .1 .0), (tabled-less s t₀ r cells table (i + 1) i (omega arith) (p .pre .1 .1 .0), (omega (arith, p .pre .1 .1 .1 .0, c .before .before .before .prefix-len .ensures .0), (p .pre .1 .1 .1 .1 .0, forward-less cells (p .args .links .now) (i + 1) i (omega arith) (p .pre .1 .1 .1 .1 .1))))))
 
 put-seg-dress-requires : (t : ℕ) → put-seg-lts.Need-dress-requires (put-seg-calls t) (put-seg-at t) put-seg.Post
 put-seg-dress-requires t c κs = let p = c .before .before .before .before .before .before .before .before .before .before .before .before .before .before .before .before .before .before .before .before in let s = p .args .s in let t₀ = p .args .t .now in let d = p .args .d .now in let n = p .args .numbers .now in let cells = p .args .cells .now in let table = p .args .table .now in let r = recordBy n d in let o = p .args .out .now in let at = p .args .at in
     let i = p .args .i in let x = segmentAt cells i in
-    let q : isBare (sourceBy n) x ≡ false = sym (c .before .before .before .before .before .before .before .before .before .before .before .before .is-bare .ensures) ∙ c .before .before .before .before .before .before .before .before .before .before .before .if1 .left in
-    let w = c .before .before .before .before .before .before .before .before .before .before .frame-at .result in let h : Framed s w (rawText s t₀ r x) (segmentText s t₀ r x) = framed-by s t₀ d n x w (rowAt table i) q (p .pre .1 .1 .0 .row i (omega arith)) (c .before .before .before .before .before .before .before .before .before .before .frame-at .ensures) in let fl = framed-length s w (rawText s t₀ r x) (segmentText s t₀ r x) h in
+    let q : isBare (bareBy n) x ≡ false = sym (c .before .before .before .before .before .before .before .before .before .before .before .before .is-bare .ensures) ∙ c .before .before .before .before .before .before .before .before .before .before .before .if1 .left in
+    let w = c .before .before .before .before .before .before .before .before .before .before .frame-at .result in let h : Framed s w (rawText s t₀ r x) (segmentText s t₀ r x) = framed-by s t₀ d n (p .pre .1 .0 .lent) x w (rowAt table i) q (p .pre .1 .1 .0 .row i (omega arith)) (c .before .before .before .before .before .before .before .before .before .before .frame-at .ensures) in let fl = framed-length s w (rawText s t₀ r x) (segmentText s t₀ r x) h in
     let pe : c .before .before .before .before .before .before .before .prefix-len .result ≡ length (opening s (w .format)) = c .before .before .before .before .before .before .before .prefix-len .ensures .0 in let p1 : length (opening s (w .format)) ≡ 0 → ⊥ = λ z. c .before .before .before .before .before .before .if2 .left (pe ∙ z) in let en = ending-four (opening s (w .format)) p1 in
     let b = at + (c .before .before .before .before .before .before .before .prefix-len .result + (w .left + w .inserted)) in
     let o₁ = c .before .before .before .put-raw3 .last .1 .1 .1 .1 .1 .1 .1 .1 .1 .0 in let ee : c .before .before .before .put-raw3 .result ≡ b + length (rawText s t₀ r x) = c .before .before .before .put-raw3 .ensures .0 in
@@ -315,8 +316,8 @@ put-seg-same-length-3 t c = search needs
 put-seg-returns-3 : (t : ℕ) → put-seg-lts.Need-returns-3 (put-seg-calls t) (put-seg-at t) put-seg.Post
 put-seg-returns-3 t c = let p = c .before .before .before .before .before .before .before .before .before .before .before .before .before .before .before .before .before .before .before .before .before .before .before in let s = p .args .s in let t₀ = p .args .t .now in let d = p .args .d .now in let n = p .args .numbers .now in let cells = p .args .cells .now in let table = p .args .table .now in let r = recordBy n d in let o = p .args .out .now in let at = p .args .at in
     let i = p .args .i in let x = segmentAt cells i in
-    let q : isBare (sourceBy n) x ≡ false = sym (c .before .before .before .before .before .before .before .before .before .before .before .before .before .before .before .is-bare .ensures) ∙ c .before .before .before .before .before .before .before .before .before .before .before .before .before .before .if1 .left in
-    let w = c .before .before .before .before .before .before .before .before .before .before .before .before .before .frame-at .result in let h : Framed s w (rawText s t₀ r x) (segmentText s t₀ r x) = framed-by s t₀ d n x w (rowAt table i) q (p .pre .1 .1 .0 .row i (omega arith)) (c .before .before .before .before .before .before .before .before .before .before .before .before .before .frame-at .ensures) in let fl = framed-length s w (rawText s t₀ r x) (segmentText s t₀ r x) h in
+    let q : isBare (bareBy n) x ≡ false = sym (c .before .before .before .before .before .before .before .before .before .before .before .before .before .before .before .is-bare .ensures) ∙ c .before .before .before .before .before .before .before .before .before .before .before .before .before .before .if1 .left in
+    let w = c .before .before .before .before .before .before .before .before .before .before .before .before .before .frame-at .result in let h : Framed s w (rawText s t₀ r x) (segmentText s t₀ r x) = framed-by s t₀ d n (p .pre .1 .0 .lent) x w (rowAt table i) q (p .pre .1 .1 .0 .row i (omega arith)) (c .before .before .before .before .before .before .before .before .before .before .before .before .before .frame-at .ensures) in let fl = framed-length s w (rawText s t₀ r x) (segmentText s t₀ r x) h in
     let pe : c .before .before .before .before .before .before .before .before .before .before .prefix-len .result ≡ length (opening s (w .format)) = c .before .before .before .before .before .before .before .before .before .before .prefix-len .ensures .0 in let p1 : length (opening s (w .format)) ≡ 0 → ⊥ = λ z. c .before .before .before .before .before .before .before .before .before .if2 .left (pe ∙ z) in let en = ending-four (opening s (w .format)) p1 in
     let b = at + (c .before .before .before .before .before .before .before .before .before .before .prefix-len .result + (w .left + w .inserted)) in
     let o₁ = c .before .before .before .before .before .before .put-raw3 .last .1 .1 .1 .1 .1 .1 .1 .1 .1 .0 in let ee : c .before .before .before .before .before .before .put-raw3 .result ≡ b + length (rawText s t₀ r x) = c .before .before .before .before .before .before .put-raw3 .ensures .0 in (

@@ -13,7 +13,7 @@ use Rattle.rows.specs.Rows.{Writable}
 use Rattle.members.proofs.Forwards.{forward-filled}
 use Rattle.line.proofs.Bound.{countable, line-counted}
 use Rattle.rows.proofs.Lengths.{lengths-told}
-use Rattle.line.proofs.Placing.{written-short, written-whole}
+use Rattle.line.proofs.Written.{written-short, written-whole}
 use Rattle.line.proofs.write_line.Statement.{statement}
 use Rattle.line.proofs.write_line.Tie as tie
 

@@ -15,15 +15,16 @@ use Rattle.measure.specs.Measures.{grown, Small}
 use Rattle.measure.proofs.Measured.{small-grown}
 use Rattle.segments.specs.Pool.{segmentAt, chainAt}
 use Rattle.members.specs.Links.{OnChain}
-use Rattle.leaves.specs.Places.{recordBy, sourceBy}
-use Rattle.rows.specs.Texts.{segmentText, segmentsText, rawText, isBare}
+use Rattle.leaves.specs.Places.{recordBy}
+use Rattle.rows.specs.Texts.{segmentText, segmentsText, rawText, bareBy, isBare}
 use Rattle.rows.specs.Rows.{rowAt}
 use Rattle.members.proofs.Linking.{on-end}
 use Rattle.rows.proofs.Linking.{member-room}
 use Rattle.rows.proofs.Depths.{group-deep, members-low, member-low}
 use Rattle.members.proofs.Forwards.{forward-less, After, member-next}
 use Rattle.rows.proofs.Segments.{raw-of-text, raw-of-members, raw-of-specifier, measured-none, measured-step}
-use Rattle.rows.proofs.Framing.{opening, Framed, bare-text, framed-by, framed-length, open-length, frame-walked, framed-none}
+use Rattle.dress.proofs.Framing.{opening, Framed, framed-length, open-length, frame-walked}
+use Rattle.rows.proofs.Framing.{bare-text, framed-by, framed-none}
 use Rattle.rows.proofs.Tables.{readable-less, tabled-less}
 use Rattle.rows.proofs.+join_of+raw_of+seg_of.{statement}
 use Rattle.rows.proofs.+join_of+raw_of+seg_of.Tie.{close}
@@ -168,7 +169,7 @@ raw-of-add-field-requires : (t : ℕ) → raw-of-lts.Need-add-field-requires (ra
 raw-of-add-field-requires t c κs = let p = c .before .before .before .before .before .before .before .before .before .before in let s = p .args .s in let t₀ = p .args .t .now in let d = p .args .d .now in let n = p .args .numbers .now in let cells = p .args .cells .now in let r = recordBy n d in
     let i = p .args .i in
     let k = raw-of-specifier s t₀ r cells i _ (sym (c .before .before .before .kind-at .ensures) ∙ c .before .kind .given .1) in
-    ((p .pre .1 .0 .row, p .pre .1 .0 .places), ((p .pre .1 .1 .1 .0 .0), omega (arith, p .pre .1 .1 .1 .0 .1, ap length k)))
+    (p .pre .1 .0 .lent, ((p .pre .1 .1 .1 .0 .0), omega (arith, p .pre .1 .1 .1 .0 .1, ap length k)))
 
 raw-of-returns : (t : ℕ) → raw-of-lts.Need-returns (raw-of-calls t) (raw-of-at t) raw-of.Post
 raw-of-returns t c = let p = c .before .before .before .before .before .before .before .before .before .before in let s = p .args .s in let t₀ = p .args .t .now in let d = p .args .d .now in let n = p .args .numbers .now in let cells = p .args .cells .now in let r = recordBy n d in
@@ -190,25 +191,25 @@ raw-of-returns-3 t c = let p = c .before .before .before .before .before .before
 
 seg-of-is-bare-requires : (t : ℕ) → seg-of-lts.Need-is-bare-requires (seg-of-calls t) (seg-of-at t) seg-of.Post
 seg-of-is-bare-requires t c κs = let p = c .before .before .before .before .before .before in
-    (p .pre .1 .0 .pool, (omega (arith, p .pre .1 .0 .few), p .pre .1 .0 .row))
+    (p .pre .1 .0 .pool, (omega (arith, p .pre .1 .0 .few), p .pre .1 .0 .lent .row))
 
 seg-of-raw-of-requires : (t : ℕ) → seg-of-lts.Need-raw-of-requires (seg-of-calls t) (seg-of-at t) seg-of.Post
 seg-of-raw-of-requires t c κs = let p = c .before .before .before .before .before .before .before .before in let s = p .args .s in let t₀ = p .args .t .now in let d = p .args .d .now in let n = p .args .numbers .now in let cells = p .args .cells .now in let table = p .args .table .now in let r = recordBy n d in
     let i = p .args .i in let x = segmentAt cells i in
-    let k = bare-text s t₀ d n x (sym (c .before .is-bare .ensures) ∙ c .if1 .taken) in
+    let k = bare-text s t₀ d n (p .pre .1 .0 .lent) x (sym (c .before .is-bare .ensures) ∙ c .if1 .taken) in
     (omega (arith, p .pre .0), ((p .pre .1 .0), (tabled-less s t₀ r cells table (i + 1) i (omega arith) (p .pre .1 .1 .0), (((p .pre .1 .1 .1 .0 .0), omega (arith, p .pre .1 .1 .1 .0 .1, ap length k)), (p .pre .1 .1 .1 .1 .0, forward-less cells (p .args .links .now) (i + 1) i (omega arith) (p .pre .1 .1 .1 .1 .1))))))
 
 seg-of-returns : (t : ℕ) → seg-of-lts.Need-returns (seg-of-calls t) (seg-of-at t) seg-of.Post
 seg-of-returns t c = let p = c .before .before .before .before .before .before .before .before .before in let s = p .args .s in let t₀ = p .args .t .now in let d = p .args .d .now in let n = p .args .numbers .now in let cells = p .args .cells .now in
     let i = p .args .i in let a = p .args .a in let x = segmentAt cells i in
-    let k = bare-text s t₀ d n x (sym (c .before .before .is-bare .ensures) ∙ c .before .if1 .taken) in
+    let k = bare-text s t₀ d n (p .pre .1 .0 .lent) x (sym (c .before .before .is-bare .ensures) ∙ c .before .if1 .taken) in
     c .raw-of .ensures ∙ ap (grown a) (sym k)
 
 seg-of-frame-at-requires : (t : ℕ) → seg-of-lts.Need-frame-at-requires (seg-of-calls t) (seg-of-at t) seg-of.Post
 seg-of-frame-at-requires t c κs = let p = c .before .before .before .before .before .before .before .before in let n = p .args .numbers .now in let cells = p .args .cells .now in
     let i = p .args .i in let x = segmentAt cells i in
-    let q : isBare (sourceBy n) x ≡ false = sym (c .before .is-bare .ensures) ∙ c .if1 .left in
-    ((p .pre .1 .0 .pool, (omega (arith, p .pre .1 .0 .few), p .pre .1 .0 .row)), (q, omega (arith, p .pre .1 .1 .0 .room)))
+    let q : isBare (bareBy n) x ≡ false = sym (c .before .is-bare .ensures) ∙ c .if1 .left in
+    ((p .pre .1 .0 .pool, (omega (arith, p .pre .1 .0 .few), p .pre .1 .0 .lent .row)), (q, omega (arith, p .pre .1 .1 .0 .room)))
 
 seg-of-is-empty-requires : (t : ℕ) → seg-of-lts.Need-is-empty-requires (seg-of-calls t) (seg-of-at t) seg-of.Post
 seg-of-is-empty-requires t c κs = search needs
@@ -216,31 +217,31 @@ seg-of-is-empty-requires t c κs = search needs
 seg-of-raw-of-requires-2 : (t : ℕ) → seg-of-lts.Need-raw-of-requires-2 (seg-of-calls t) (seg-of-at t) seg-of.Post
 seg-of-raw-of-requires-2 t c κs = let p = c .before .before .before .before .before .before .before .before .before .before .before in let s = p .args .s in let t₀ = p .args .t .now in let d = p .args .d .now in let n = p .args .numbers .now in let cells = p .args .cells .now in let table = p .args .table .now in let r = recordBy n d in
     let i = p .args .i in let a = p .args .a in let x = segmentAt cells i in
-    let q : isBare (sourceBy n) x ≡ false = sym (c .before .before .before .before .is-bare .ensures) ∙ c .before .before .before .if1 .left in
-    let w = c .before .before .frame-at .result in let h : Framed s w (rawText s t₀ r x) (segmentText s t₀ r x) = framed-by s t₀ d n x w (rowAt table i) q (p .pre .1 .1 .0 .row i (omega arith)) (c .before .before .frame-at .ensures) in
+    let q : isBare (bareBy n) x ≡ false = sym (c .before .before .before .before .is-bare .ensures) ∙ c .before .before .before .if1 .left in
+    let w = c .before .before .frame-at .result in let h : Framed s w (rawText s t₀ r x) (segmentText s t₀ r x) = framed-by s t₀ d n (p .pre .1 .0 .lent) x w (rowAt table i) q (p .pre .1 .1 .0 .row i (omega arith)) (c .before .before .frame-at .ensures) in
     let e = framed-none s w (rawText s t₀ r x) (segmentText s t₀ r x) h (sym (c .before .is-empty .ensures) ∙ c .if2 .taken) in
     (omega (arith, p .pre .0), ((p .pre .1 .0), (tabled-less s t₀ r cells table (i + 1) i (omega arith) (p .pre .1 .1 .0), (((p .pre .1 .1 .1 .0 .0), omega (arith, p .pre .1 .1 .1 .0 .1, ap length e)), (p .pre .1 .1 .1 .1 .0, forward-less cells (p .args .links .now) (i + 1) i (omega arith) (p .pre .1 .1 .1 .1 .1))))))
 
 seg-of-returns-2 : (t : ℕ) → seg-of-lts.Need-returns-2 (seg-of-calls t) (seg-of-at t) seg-of.Post
 seg-of-returns-2 t c = let p = c .before .before .before .before .before .before .before .before .before .before .before .before in let s = p .args .s in let t₀ = p .args .t .now in let d = p .args .d .now in let n = p .args .numbers .now in let cells = p .args .cells .now in let table = p .args .table .now in let r = recordBy n d in
     let i = p .args .i in let a = p .args .a in let x = segmentAt cells i in
-    let q : isBare (sourceBy n) x ≡ false = sym (c .before .before .before .before .before .is-bare .ensures) ∙ c .before .before .before .before .if1 .left in
-    let w = c .before .before .before .frame-at .result in let h : Framed s w (rawText s t₀ r x) (segmentText s t₀ r x) = framed-by s t₀ d n x w (rowAt table i) q (p .pre .1 .1 .0 .row i (omega arith)) (c .before .before .before .frame-at .ensures) in
+    let q : isBare (bareBy n) x ≡ false = sym (c .before .before .before .before .before .is-bare .ensures) ∙ c .before .before .before .before .if1 .left in
+    let w = c .before .before .before .frame-at .result in let h : Framed s w (rawText s t₀ r x) (segmentText s t₀ r x) = framed-by s t₀ d n (p .pre .1 .0 .lent) x w (rowAt table i) q (p .pre .1 .1 .0 .row i (omega arith)) (c .before .before .before .frame-at .ensures) in
     let e = framed-none s w (rawText s t₀ r x) (segmentText s t₀ r x) h (sym (c .before .before .is-empty .ensures) ∙ c .before .if2 .taken) in
     c .raw-of2 .ensures ∙ ap (grown a) (sym e)
 
 seg-of-opened-requires : (t : ℕ) → seg-of-lts.Need-opened-requires (seg-of-calls t) (seg-of-at t) seg-of.Post
 seg-of-opened-requires t c κs = let p = c .before .before .before .before .before .before .before .before .before .before .before .before in let s = p .args .s in let t₀ = p .args .t .now in let d = p .args .d .now in let n = p .args .numbers .now in let cells = p .args .cells .now in let table = p .args .table .now in let r = recordBy n d in
     let i = p .args .i in let x = segmentAt cells i in
-    let q : isBare (sourceBy n) x ≡ false = sym (c .before .before .before .before .before .is-bare .ensures) ∙ c .before .before .before .before .if1 .left in
-    let w = c .before .before .before .frame-at .result in let h : Framed s w (rawText s t₀ r x) (segmentText s t₀ r x) = framed-by s t₀ d n x w (rowAt table i) q (p .pre .1 .1 .0 .row i (omega arith)) (c .before .before .before .frame-at .ensures) in let fl = framed-length s w (rawText s t₀ r x) (segmentText s t₀ r x) h in
+    let q : isBare (bareBy n) x ≡ false = sym (c .before .before .before .before .before .is-bare .ensures) ∙ c .before .before .before .before .if1 .left in
+    let w = c .before .before .before .frame-at .result in let h : Framed s w (rawText s t₀ r x) (segmentText s t₀ r x) = framed-by s t₀ d n (p .pre .1 .0 .lent) x w (rowAt table i) q (p .pre .1 .1 .0 .row i (omega arith)) (c .before .before .before .frame-at .ensures) in let fl = framed-length s w (rawText s t₀ r x) (segmentText s t₀ r x) h in
     ((p .pre .1 .1 .1 .0 .0), omega (arith, p .pre .1 .1 .1 .0 .1))
 
 seg-of-raw-of-requires-3 : (t : ℕ) → seg-of-lts.Need-raw-of-requires-3 (seg-of-calls t) (seg-of-at t) seg-of.Post
 seg-of-raw-of-requires-3 t c κs = let p = c .before .before .before .before .before .before .before .before .before .before .before .before .before in let s = p .args .s in let t₀ = p .args .t .now in let d = p .args .d .now in let n = p .args .numbers .now in let cells = p .args .cells .now in let table = p .args .table .now in let r = recordBy n d in
     let i = p .args .i in let a = p .args .a in let x = segmentAt cells i in
-    let q : isBare (sourceBy n) x ≡ false = sym (c .before .before .before .before .before .before .is-bare .ensures) ∙ c .before .before .before .before .before .if1 .left in
-    let w = c .before .before .before .before .frame-at .result in let h : Framed s w (rawText s t₀ r x) (segmentText s t₀ r x) = framed-by s t₀ d n x w (rowAt table i) q (p .pre .1 .1 .0 .row i (omega arith)) (c .before .before .before .before .frame-at .ensures) in let fl = framed-length s w (rawText s t₀ r x) (segmentText s t₀ r x) h in
+    let q : isBare (bareBy n) x ≡ false = sym (c .before .before .before .before .before .before .is-bare .ensures) ∙ c .before .before .before .before .before .if1 .left in
+    let w = c .before .before .before .before .frame-at .result in let h : Framed s w (rawText s t₀ r x) (segmentText s t₀ r x) = framed-by s t₀ d n (p .pre .1 .0 .lent) x w (rowAt table i) q (p .pre .1 .1 .0 .row i (omega arith)) (c .before .before .before .before .frame-at .ensures) in let fl = framed-length s w (rawText s t₀ r x) (segmentText s t₀ r x) h in
     let o = opening s (w .format) ++ replicate (w .left) (padByte (w .format .padding)) in let ol = open-length s w (rawText s t₀ r x) (segmentText s t₀ r x) h in
     let be : c .opened .result ≡ grown a o = c .opened .ensures in let sb : Small (c .opened .result) = subst Small (sym be) (small-grown a o (p .pre .1 .1 .1 .0 .0)) in let bl = ap (λ (y : Measure). y .len) be in
     (omega (arith, p .pre .0), ((p .pre .1 .0), (tabled-less s t₀ r cells table (i + 1) i (omega arith) (p .pre .1 .1 .0), ((sb, omega (arith, p .pre .1 .1 .1 .0 .1)), (p .pre .1 .1 .1 .1 .0, forward-less cells (p .args .links .now) (i + 1) i (omega arith) (p .pre .1 .1 .1 .1 .1))))))
@@ -248,8 +249,8 @@ seg-of-raw-of-requires-3 t c κs = let p = c .before .before .before .before .be
 seg-of-closed-requires : (t : ℕ) → seg-of-lts.Need-closed-requires (seg-of-calls t) (seg-of-at t) seg-of.Post
 seg-of-closed-requires t c κs = let p = c .before .before .before .before .before .before .before .before .before .before .before .before .before .before in let s = p .args .s in let t₀ = p .args .t .now in let d = p .args .d .now in let n = p .args .numbers .now in let cells = p .args .cells .now in let table = p .args .table .now in let r = recordBy n d in
     let i = p .args .i in let a = p .args .a in let x = segmentAt cells i in
-    let q : isBare (sourceBy n) x ≡ false = sym (c .before .before .before .before .before .before .before .is-bare .ensures) ∙ c .before .before .before .before .before .before .if1 .left in
-    let w = c .before .before .before .before .before .frame-at .result in let h : Framed s w (rawText s t₀ r x) (segmentText s t₀ r x) = framed-by s t₀ d n x w (rowAt table i) q (p .pre .1 .1 .0 .row i (omega arith)) (c .before .before .before .before .before .frame-at .ensures) in let fl = framed-length s w (rawText s t₀ r x) (segmentText s t₀ r x) h in
+    let q : isBare (bareBy n) x ≡ false = sym (c .before .before .before .before .before .before .before .is-bare .ensures) ∙ c .before .before .before .before .before .before .if1 .left in
+    let w = c .before .before .before .before .before .frame-at .result in let h : Framed s w (rawText s t₀ r x) (segmentText s t₀ r x) = framed-by s t₀ d n (p .pre .1 .0 .lent) x w (rowAt table i) q (p .pre .1 .1 .0 .row i (omega arith)) (c .before .before .before .before .before .frame-at .ensures) in let fl = framed-length s w (rawText s t₀ r x) (segmentText s t₀ r x) h in
     let o = opening s (w .format) ++ replicate (w .left) (padByte (w .format .padding)) in let ol = open-length s w (rawText s t₀ r x) (segmentText s t₀ r x) h in
     let be : c .before .opened .result ≡ grown a o = c .before .opened .ensures in let sb : Small (c .before .opened .result) = subst Small (sym be) (small-grown a o (p .pre .1 .1 .1 .0 .0)) in let bl = ap (λ (y : Measure). y .len) be in
     let ce : c .raw-of3 .result ≡ grown (c .before .opened .result) (rawText s t₀ r x) = c .raw-of3 .ensures in let cl = ap (λ (y : Measure). y .len) ce in
@@ -258,8 +259,8 @@ seg-of-closed-requires t c κs = let p = c .before .before .before .before .befo
 seg-of-returns-3 : (t : ℕ) → seg-of-lts.Need-returns-3 (seg-of-calls t) (seg-of-at t) seg-of.Post
 seg-of-returns-3 t c = let p = c .before .before .before .before .before .before .before .before .before .before .before .before .before .before .before in let s = p .args .s in let t₀ = p .args .t .now in let d = p .args .d .now in let n = p .args .numbers .now in let cells = p .args .cells .now in let table = p .args .table .now in let r = recordBy n d in
     let i = p .args .i in let a = p .args .a in let x = segmentAt cells i in
-    let q : isBare (sourceBy n) x ≡ false = sym (c .before .before .before .before .before .before .before .before .is-bare .ensures) ∙ c .before .before .before .before .before .before .before .if1 .left in
-    let w = c .before .before .before .before .before .before .frame-at .result in let h : Framed s w (rawText s t₀ r x) (segmentText s t₀ r x) = framed-by s t₀ d n x w (rowAt table i) q (p .pre .1 .1 .0 .row i (omega arith)) (c .before .before .before .before .before .before .frame-at .ensures) in let fl = framed-length s w (rawText s t₀ r x) (segmentText s t₀ r x) h in
+    let q : isBare (bareBy n) x ≡ false = sym (c .before .before .before .before .before .before .before .before .is-bare .ensures) ∙ c .before .before .before .before .before .before .before .if1 .left in
+    let w = c .before .before .before .before .before .before .frame-at .result in let h : Framed s w (rawText s t₀ r x) (segmentText s t₀ r x) = framed-by s t₀ d n (p .pre .1 .0 .lent) x w (rowAt table i) q (p .pre .1 .1 .0 .row i (omega arith)) (c .before .before .before .before .before .before .frame-at .ensures) in let fl = framed-length s w (rawText s t₀ r x) (segmentText s t₀ r x) h in
     c .closed .ensures ∙ frame-walked s w (rawText s t₀ r x) (segmentText s t₀ r x) h a (c .before .before .opened .result) (c .before .raw-of3 .result) (c .before .before .opened .ensures) (c .before .raw-of3 .ensures)
 
 pub +join-of+raw-of+seg-of-spec : {M : Type 1} → statement M

@@ -41,7 +41,7 @@ field-len-requires : tie.Need-field-len-requires
 field-len-requires c κs = let p = c .before .before .before .before .before .before .before .before .before in let s = p .args .s in let t₀ = p .args .t .now in let d = p .args .d .now in let n = p .args .numbers .now in let cells = p .args .cells .now in let r = recordBy n d in
     let i = p .args .i in
     let k = raw-of-specifier s t₀ r cells i _ (sym (c .before .before .before .kind-at .ensures) ∙ c .before .kind .given .1) in
-    ((p .pre .0 .row, p .pre .0 .places), omega (arith, p .pre .1 .1, ap length k))
+    (p .pre .0 .lent, omega (arith, p .pre .1 .1, ap length k))
 
 returns : tie.Need-returns
 returns c = let p = c .before .before .before .before .before .before .before .before .before in let s = p .args .s in let t₀ = p .args .t .now in let d = p .args .d .now in let n = p .args .numbers .now in let cells = p .args .cells .now in let r = recordBy n d in

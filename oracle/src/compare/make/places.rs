@@ -1,7 +1,7 @@
 //! Texts, records and templates in which padding meets wide characters, and what is nearly one; and every character of
 //! Unicode in a padded message.
 
-use super::{any_record, Case, UNKNOWN};
+use super::{any_record, Case, REPORT_ONE_IN, UNKNOWN};
 use crate::ruling::wide;
 use crate::sample::random::{Rng, SPECIFIERS, STYLES};
 use crate::sheet::{Layout, Record, Sheet, FILE, HEAD, LINE, MODULE, PLACES};
@@ -106,6 +106,9 @@ pub fn record(rng: &mut Rng, layout: Layout) -> Record {
     }
     if mask & MODULE != 0 {
         put(&mut record.module);
+    }
+    if rng.one_in(REPORT_ONE_IN) {
+        record.message = rng.report();
     }
     if layout == Layout::New && !rng.one_in(4) {
         record.mask |= HEAD;

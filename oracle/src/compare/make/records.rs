@@ -6,14 +6,6 @@ use crate::sheet::{Layout, Record, FILE, HEAD, LENGTHS, LINE, MODULE};
 
 const FILES: &[&str] =
     &["", ".", "./", "./a", "././a/b.rs", ".//a", "./..", "/.", "//a//b//", "/../a", "a/./.", "é/ü.rs", "/", ".."];
-const DIFFS: &[&str] = &[
-    "wall\n left: `12`\nright: `13`",
-    "a\nb\r\n left: `é\x1b[0m`\r\nright: ``\n",
-    "wall\n left: `\nright: `",
-    " left: `1`\nright: `2`",
-    "wall\n left: `1`\nright: `2`\n.",
-    "wall\n left: `1` \nright: `2`",
-];
 const PIECES: &[&str] = &[
     "\x1b[0m",
     "\x1b[0m",
@@ -44,7 +36,7 @@ const WRONG: &[&[u8]] = &[b"\xff", &[0xff; 4097], &[b'm'; 4097], &[b'm'; 4096]];
 pub fn record(rng: &mut Rng, layout: Layout) -> Vec<u8> {
     let mut record = rng.record();
     heads::give(rng, layout, &mut record);
-    match rng.below(22) {
+    match rng.below(24) {
         0 | 1 => impossible(rng, &mut record),
         2 => {
             let text = long(rng);
@@ -58,13 +50,13 @@ pub fn record(rng: &mut Rng, layout: Layout) -> Vec<u8> {
             record.mask |= FILE;
             record.file = rng.pick(FILES).into();
         }
-        6 => record.message = rng.pick(DIFFS).into(),
-        7..=10 => {
+        6..=8 => record.message = rng.report(),
+        9..=12 => {
             let text = mixed(rng);
             *any_field(rng, layout, &mut record) = text;
         }
-        11 => return of_wrong_size(rng, &record, layout),
-        12 | 13 if layout == Layout::New => {
+        13 => return of_wrong_size(rng, &record, layout),
+        14 | 15 if layout == Layout::New => {
             record.mask |= HEAD;
             record.head = heads::serial(rng);
             if rng.one_in(3) {

@@ -1,6 +1,5 @@
 -- `rows::segment::is_bare` meets its contract. Assumes nothing.
 use borrow.Author.Needs.{needs}
-use Rattle.leaves.specs.Places.{sourceBy}
 use Rattle.rows.proofs.Formats.{text-is-bare, group-is-not, specifier-is}
 use Rattle.rows.proofs.segment.is_bare.Statement.{statement}
 use Rattle.rows.proofs.segment.is_bare.Tie as tie
@@ -17,14 +16,8 @@ enum-told-2 c = search needs
 enum-known-kind : tie.Need-enum-known-kind
 enum-known-kind c = search needs
 
-shared-slice-read-source-of : tie.Need-shared-slice-read-source-of
-shared-slice-read-source-of c = search needs
-
-source-of-requires : tie.Need-source-of-requires
-source-of-requires c κs = search needs
-
-is-bare-from-requires : tie.Need-is-bare-from-requires
-is-bare-from-requires c κs = search needs
+is-bare-field-requires : tie.Need-is-bare-field-requires
+is-bare-field-requires c κs = search needs
 
 returns : tie.Need-returns
 returns c = text-is-bare _ _ _ (c .before .before .kind-at .ensures) _ (c .enum-told .given .1)
@@ -33,8 +26,7 @@ returns-2 : tie.Need-returns-2
 returns-2 c = group-is-not _ _ _ (c .before .before .kind-at .ensures) _ (c .enum-told2 .given .1)
 
 returns-3 : tie.Need-returns-3
-unfolding sourceBy
-returns-3 c = specifier-is _ _ _ (c .before .before .before .before .before .before .kind-at .ensures) _ _ _ _ (c .before .before .before .before .kind .given .1) (c .before .source-of .ensures) (c .is-bare-from .ensures)
+returns-3 c = specifier-is _ _ _ (c .before .before .before .before .kind-at .ensures) _ _ _ (c .before .before .kind .given .1) (c .is-bare-field .ensures)
 
 pub is-bare-spec : {M : Type 1} → statement M
 is-bare-spec =
@@ -44,9 +36,7 @@ is-bare-spec =
     enum-told
     enum-told-2
     enum-known-kind
-    shared-slice-read-source-of
-    source-of-requires
-    is-bare-from-requires
+    is-bare-field-requires
     returns
     returns-2
     returns-3)

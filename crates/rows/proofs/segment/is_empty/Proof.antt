@@ -1,14 +1,14 @@
 -- `rows::segment::is_empty` meets its contract. Assumes nothing.
 use borrow.Author.Needs.{needs}
 use borrow.Author.Tests.{eq-eqb, ne-eqb}
-use mathlib.Core.Path.{_≡_, sym, ap, _∙_}
+use mathlib.Core.Path.{sym, ap, _∙_}
 use mathlib.Core.Bool.{Bool, _&&_}
 use Prim.Native.Nat.{ℕ}
 use lib.Dec.{eqb}
 use lib.ListN.{length}
 use Rattle.colour.specs.declared.Settings.{Settings}
 use Rattle.colour.specs.Formatting.{prefixIn}
-use Rattle.rows.specs.declared.Frame.{Frame}
+use Rattle.dress.specs.declared.Frame.{Frame}
 use Rattle.rows.specs.Rows.{isEmpty}
 use Rattle.rows.proofs.segment.is_empty.Statement.{statement}
 use Rattle.rows.proofs.segment.is_empty.Tie as tie

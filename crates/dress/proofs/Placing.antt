@@ -1,13 +1,12 @@
--- A segment's text written: padding around it, or dressed where it stands. Assumes nothing.
-use Prim.Native.Nat.{ℕ, _+_, _-_, _≤_, _<_}
+-- A text written in its frame: padding around it, or dressed where it stands. Assumes nothing.
+use Prim.Native.Nat.{ℕ, _+_, _-_, _≤_}
 use mathlib.Core.Path.{_≡_, refl, sym, ap, _∙_}
 use mathlib.Core.Bool.{Bool, true, false}
 use mathlib.Core.List.{List, [], _∷_, _++_, append-assoc}
 use native.Mathlib.Omega.{arith}
-use borrow.Author.Tests.{le-leb, lt-leb}
 use lib.ListN.{length, replicate, length-append, length-replicate}
 use Rattle.buffer.specs.Bytes.{part}
-use Rattle.buffer.specs.Buffer.{putAt, written}
+use Rattle.buffer.specs.Buffer.{putAt}
 use Rattle.buffer.proofs.Writing.{join, part-put, put-over}
 use Rattle.colour.specs.declared.Settings.{Settings}
 use Rattle.colour.specs.declared.Look.{Look}
@@ -16,9 +15,8 @@ use Rattle.colour.specs.Looks.{prefix}
 use Rattle.colour.specs.Formatting.{prefixIn, inserted, padded, before, padByte, ending, framed}
 use Rattle.colour.proofs.Formatted.{laid-plain, ending-reset}
 use Rattle.colour.proofs.Measures.{length-reinserted}
-use Rattle.rows.specs.declared.Frame.{Frame}
-use Rattle.leaves.proofs.Cutting.{empty}
-use Rattle.rows.proofs.Framing.{opening, Framed, framed-length}
+use Rattle.dress.specs.declared.Frame.{Frame}
+use Rattle.dress.proofs.Framing.{empty, opening, Framed, framed-length}
 
 -- where there is a prefix colour is on
 pub prefix-on : (on : Bool) (k : Look) → (length (prefixIn on k) ≡ 0 → ⊥) → prefixIn on k ≡ prefix k
@@ -36,15 +34,6 @@ ending-none (b ∷ p) h = absurd (let z : ⊥ = omega arith in z)
 
 pub ending-four : (p : List ℕ) → (length p ≡ 0 → ⊥) → length (ending p) ≡ 4
 ending-four p h = ap length (ending-some p h)
-
--- a line in a buffer that is too short for it, and in one that isn't
-pub written-short : (d x : List ℕ) → length d < length x → written d x ≡ d
-unfolding written
-written-short d x h = rw (lt-leb (length x) (length d) h, written)
-
-pub written-whole : (d x : List ℕ) → length x ≤ length d → written d x ≡ putAt d 0 x
-unfolding written
-written-whole d x h = rw (le-leb (length x) (length d) h, written)
 
 module _ (s : Settings) (w : Frame) (x y : List ℕ) (h : Framed s w x y) where
   -- without a prefix

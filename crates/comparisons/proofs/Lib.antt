@@ -1,0 +1,10 @@
+pub mod Parts
+pub mod Lining
+pub mod Splitting
+pub mod Sharing
+pub mod Laying
+pub mod Walking
+pub mod Marking
+pub mod Closing
+pub mod Short
+pub mod Heading

@@ -1,0 +1,3 @@
+pub mod Comparisons
+pub mod Places
+pub mod Computing
