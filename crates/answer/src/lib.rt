@@ -1,4 +1,6 @@
 // What a line call answers: the line, or a refusal.
+#![tactic(auto)]
+
 ghost use Rattle.std.specs.Prelude.{◌≡◌, true, ◌<◌, ◌≤◌, ◌^◌, length};
 ghost use Rattle.buffer.specs.Bytes.{part};
 ghost use Rattle.segments.specs.Pool.{chain_at};

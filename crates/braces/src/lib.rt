@@ -1,10 +1,12 @@
 // The search for a closing brace.
+#![tactic(auto)]
+
 ghost use Rattle.std.specs.Prelude.{◌≡◌, false, ◌-◌, ◌≤◌, length};
 ghost use Rattle.braces.specs.Braces.{closing};
 ghost use Rattle.braces.specs.Within.{ClosingWithin};
 
 // Where the brace that is open closes.
-#[derive(Drop)]
+#[derive(Clone, Copy)]
 pub enum Closing {
     At(usize),
     Nowhere,

@@ -1,4 +1,6 @@
 // Writing into a lent buffer.
+#![tactic(auto)]
+
 ghost use Rattle.std.specs.Prelude.{◌≡◌, ◌+◌, ◌≤◌, length, replicate};
 ghost use Rattle.buffer.specs.Buffer.{put_at, Puts};
 

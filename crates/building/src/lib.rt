@@ -1,4 +1,6 @@
 // What readers answer, and the segments that words and pieces add up to (in the crate: `build_log_segment`).
+#![tactic(auto)]
+
 ghost use Rattle.std.specs.Prelude.{◌≡◌};
 ghost use Rattle.segments.specs.Sizes.{Narrow};
 ghost use Rattle.parts.specs.Parts.{segment_of};
@@ -9,7 +11,7 @@ use parts::{Named, Parts};
 use refusals::Refusal;
 
 // What a list of words answers.
-#[derive(Drop)]
+#[derive(Clone, Copy)]
 pub enum PartsRead {
     Fit(usize, Parts),
     Misfit,
@@ -18,7 +20,7 @@ pub enum PartsRead {
 
 // What a reader of segments answers: it fits (the place after it, and how many segments are made: it is the last of them), it doesn't fit,
 // or the template is refused.
-#[derive(Drop)]
+#[derive(Clone, Copy)]
 pub enum Reading {
     Fit(usize, usize),
     Misfit,
@@ -26,7 +28,7 @@ pub enum Reading {
 }
 
 // The group or inner segment that a content takes: where there is one, it is the segment made last.
-#[derive(Drop)]
+#[derive(Clone, Copy)]
 pub enum Inner {
     Nothing,
     One,
@@ -34,14 +36,14 @@ pub enum Inner {
 }
 
 // What the items of a content have given so far.
-#[derive(Drop)]
+#[derive(Clone, Copy)]
 pub struct Items {
     pub made: usize,
     pub parts: Parts,
     pub inner: Inner,
 }
 
-#[derive(Drop)]
+#[derive(Clone, Copy)]
 pub enum ItemRead {
     Fit(usize, Items),
     Misfit,
@@ -49,7 +51,7 @@ pub enum ItemRead {
 }
 
 // What the pieces of a group have given so far: the link to its last member (0: none), and whether a member is a specifier.
-#[derive(Drop)]
+#[derive(Clone, Copy)]
 pub struct Pieces {
     pub last: usize,
     pub made: usize,
@@ -57,7 +59,7 @@ pub struct Pieces {
     pub direct: bool,
 }
 
-#[derive(Drop)]
+#[derive(Clone, Copy)]
 pub enum PieceRead {
     Fit(usize, Pieces),
     Misfit,

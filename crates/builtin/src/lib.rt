@@ -1,4 +1,6 @@
 // The built-in templates.
+#![tactic(auto)]
+
 ghost use Rattle.std.specs.Prelude.{◌≡◌, ◌++◌, ◌+◌, ◌<◌, ◌≤◌, length};
 ghost use Rattle.buffer.specs.Bytes.{bytes};
 ghost use Rattle.builtin.specs.Builtins.{builtin_text};
@@ -7,7 +9,7 @@ ghost use Rattle.builtin.specs.Rows.{from_two, template_row, row_text};
 ghost use Rattle.buffer.specs.Buffer.{Writes};
 
 // The two sets of them.
-#[derive(Drop)]
+#[derive(Clone, Copy)]
 pub enum Style {
     Default,
     OneLine,

@@ -1,4 +1,6 @@
 // A place of a text, shown to a person: the line of the text that holds the place, and below it a caret.
+#![tactic(auto)]
+
 ghost use Rattle.std.specs.Prelude.{◌≡◌, ◌≤◌, ◌<◌, ◌+◌, length};
 ghost use Rattle.buffer.specs.Buffer.{put_at, Puts};
 ghost use Rattle.caret.specs.Caret.{line_from, line_to, is_control, ends_control, harmless, harmless_behind, shown_line, caret_line};

@@ -48,6 +48,7 @@ module _ (r : Range) (more : List Range) (rest : List (List Range)) (b : ℕ) wh
 step_begun : (fs : List (List Range)) (b : ℕ) → Led fs → Stepped [] b (begun fs b)
 unfolding begun
 step_begun [] b l = tt
+step_begun ([] ∷ rest) b l = elim l [ ]
 step_begun ((r ∷ more) ∷ rest) b l =
     try_form r more rest b l (step_begun rest b (rest_led r more rest b l)) (within r b) refl
 

@@ -1,5 +1,7 @@
 // The count of characters, and the search for a byte. The counter of a round is one byte wide, so that the compiler counts many bytes in one
 // step.
+#![tactic(auto)]
+
 ghost use Rattle.std.specs.Prelude.{◌≡◌, true, cond, ◌+◌, ◌≤◌, eqb, length, drop};
 ghost use Rattle.characters.specs.Characters.{begins, chars, has};
 
@@ -7,7 +9,7 @@ ghost use Rattle.characters.specs.Characters.{begins, chars, has};
 const ROUND: usize = 128;
 
 // How many characters a text has, and whether a byte is in it.
-#[derive(Drop)]
+#[derive(Clone, Copy)]
 pub struct Counted {
     pub chars: usize,
     pub met: bool,
@@ -35,7 +37,7 @@ pub fn count_chars(s: &[u8], b: u8) -> Counted
 }
 
 // How many of some bytes go on with a character, and whether the byte looked for was met, in them or before.
-#[derive(Drop)]
+#[derive(Clone, Copy)]
 struct Tallied {
     trailing: u8,
     met: bool,

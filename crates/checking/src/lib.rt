@@ -1,4 +1,6 @@
 // A template alone: whether it is read, and whether it names the time.
+#![tactic(auto)]
+
 ghost use Rattle.std.specs.Prelude.{◌≡◌, ◌≤◌, length};
 ghost use Rattle.template.specs.Parsing.{tell_parsed, ParsedKeeps};
 ghost use Rattle.checking.specs.Templates.{template_asked, check_entry, timestamp_entry};

@@ -1,4 +1,6 @@
 // The checks of a record: refusal 14, then 11 and 12 for each text in turn.
+#![tactic(auto)]
+
 ghost use Rattle.std.specs.Prelude.{◌≡◌, ◌≤◌, ◌||◌, ltb, length};
 ghost use Rattle.buffer.specs.Bytes.{part};
 ghost use Rattle.record.specs.Placed.{laid_by, PlacesWithin};
@@ -17,7 +19,7 @@ const MOST_FIELD: usize = 4096;
 const MOST_SERIAL: usize = 32;
 
 // Whether a record passes its checks.
-#[derive(Drop)]
+#[derive(Clone, Copy)]
 pub enum Checked {
     Passed,
     Refused(Refusal),

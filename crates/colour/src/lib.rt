@@ -1,9 +1,11 @@
 // Colour: sequences in a text, the prefix of a look, and one formatted text.
+#![tactic(auto)]
+
 use widths::Rule;
 use words::{Alignment, Color, Padding, Styles};
 
 // What a line is made for.
-#[derive(Drop)]
+#[derive(Clone, Copy)]
 pub struct Settings {
     pub colour: bool,
     pub straight: bool,
@@ -11,21 +13,21 @@ pub struct Settings {
 }
 
 // The colour that applies to a text.
-#[derive(Drop)]
+#[derive(Clone, Copy)]
 pub enum Ink {
     Bare,
     Inked(Color),
 }
 
 // The styles and the colour that apply to a text.
-#[derive(Drop)]
+#[derive(Clone, Copy)]
 pub struct Look {
     pub styles: Styles,
     pub ink: Ink,
 }
 
 // How a text is written, defaults and levels resolved.
-#[derive(Drop)]
+#[derive(Clone, Copy)]
 pub struct Format {
     pub width: usize,
     pub alignment: Alignment,
@@ -34,7 +36,7 @@ pub struct Format {
 }
 
 // Where the search for colour sequences stands.
-#[derive(Drop)]
+#[derive(Clone, Copy)]
 pub enum State {
     // no sequence has begun
     Outside,
@@ -49,7 +51,7 @@ pub enum State {
 }
 
 // What a byte does in the search.
-#[derive(Drop)]
+#[derive(Clone, Copy)]
 pub enum Act {
     // it is text, and so is what was held
     Text,
@@ -64,7 +66,7 @@ pub enum Act {
 }
 
 // What the search has found: the bytes held of a sequence that has begun, the bytes of whole sequences, the resets.
-#[derive(Drop)]
+#[derive(Clone, Copy)]
 pub struct Scan {
     pub state: State,
     pub held: usize,

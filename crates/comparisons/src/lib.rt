@@ -1,4 +1,6 @@
 // Comparison reports: whether a message is one, and where its pieces stand.
+#![tactic(auto)]
+
 ghost use Rattle.std.specs.Prelude.{◌≡◌, List, [], ◌∷◌, ◌++◌, ◌+◌, ◌-◌, ◌<◌, ◌≤◌, length, get_or};
 ghost use Rattle.buffer.specs.Bytes.{part, same};
 ghost use Rattle.utf8.specs.Utf8.{within, trail};
@@ -8,41 +10,41 @@ ghost use Rattle.comparisons.specs.Places.{trimmed, unended, LineAt, by_ending, 
 pub mod head;
 
 // Where a line ends, and where the next one begins.
-#[derive(Drop)]
+#[derive(Clone, Copy)]
 pub struct Lined {
     pub end: usize,
     pub next: usize,
 }
 
 // A stretch of a message.
-#[derive(Drop)]
+#[derive(Clone, Copy)]
 pub struct Span {
     pub from: usize,
     pub to: usize,
 }
 
 // The last two lines of three or more; the head is what stands before the first of them.
-#[derive(Drop)]
+#[derive(Clone, Copy)]
 pub struct LastTwo {
     pub left: Span,
     pub right: Span,
 }
 
-#[derive(Drop)]
+#[derive(Clone, Copy)]
 pub enum Ending {
     Few,
     Two(LastTwo),
 }
 
 // Two places, one in each value.
-#[derive(Drop)]
+#[derive(Clone, Copy)]
 pub struct Pair {
     pub left: usize,
     pub right: usize,
 }
 
 // A value: up to `begun` and from `rest` on it is shared with the other.
-#[derive(Drop)]
+#[derive(Clone, Copy)]
 pub struct Value {
     pub from: usize,
     pub begun: usize,
@@ -51,14 +53,14 @@ pub struct Value {
 }
 
 // The places of a comparison: the end of its head, its values.
-#[derive(Drop)]
+#[derive(Clone, Copy)]
 pub struct Spans {
     pub head: usize,
     pub left: Value,
     pub right: Value,
 }
 
-#[derive(Drop)]
+#[derive(Clone, Copy)]
 pub enum Compared {
     Nothing,
     At(Spans),

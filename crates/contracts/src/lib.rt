@@ -1,1 +1,3 @@
 // That the contracts settle everything: no code.
+#![tactic(auto)]
+

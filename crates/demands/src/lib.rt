@@ -1,1 +1,3 @@
 // The demands on the lines, as statements, and their proofs: no code.
+#![tactic(auto)]
+

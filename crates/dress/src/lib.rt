@@ -1,5 +1,7 @@
 // Dressing: a text that stands in the line becomes its formatted text there, without a second buffer. It stands where its finished form will end,
 // so that it is streamed forward: the place read is never before the place written.
+#![tactic(auto)]
+
 ghost use Rattle.std.specs.Prelude.{◌≡◌, ◌+◌, ◌≤◌, length};
 ghost use Rattle.buffer.specs.Bytes.{part};
 ghost use Rattle.buffer.specs.Buffer.{put_at};
@@ -14,7 +16,7 @@ use prefix::{RESET, put_prefix};
 use words::Padding;
 
 // What stands around a text: its format, the padding on either side, and the bytes inserted into it.
-#[derive(Drop)]
+#[derive(Clone, Copy)]
 pub struct Frame {
     pub format: Format,
     pub left: usize,

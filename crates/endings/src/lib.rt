@@ -1,5 +1,7 @@
 // Where words and texts end: what they are, the reading before has stored. They are asked of the functions that the reading itself calls and the compiler leaves
 // alone. What it makes a part of the reading must not be called from here, too: it would leave that alone as well, and reading would be slower.
+#![tactic(auto)]
+
 ghost use Rattle.std.specs.Prelude.{◌≡◌, ℕ, ◌+◌, ◌-◌, ◌≤◌, length};
 ghost use Rattle.buffer.specs.Bytes.{byte};
 ghost use Rattle.words.specs.Trying.{misfit, further};
@@ -14,7 +16,7 @@ use lists::{further_words, parse_parameter, parse_word, plain_end};
 use parts::{Named, Parts, no_parts};
 
 // Where what is tried ends, if it fits.
-#[derive(Drop)]
+#[derive(Clone, Copy)]
 pub enum Ends {
     At(usize),
     Nowhere,

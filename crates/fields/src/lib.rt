@@ -1,4 +1,6 @@
 // What each specifier shows of a record.
+#![tactic(auto)]
+
 ghost use Rattle.std.specs.Prelude.{◌≡◌, [], ◌∷◌, ◌+◌, ◌<◌, ◌≤◌, length, get_or};
 ghost use Rattle.buffer.specs.Bytes.{bytes, part, same};
 ghost use Rattle.record.specs.Placed.{laid_by, PlacesWithin};
@@ -16,7 +18,7 @@ use record::{Level, Name, Places, Source};
 use words::LogMetadata;
 
 // A text that doesn't come from the record: placeholders and the names of levels.
-#[derive(Drop)]
+#[derive(Clone, Copy)]
 pub enum Fixed {
     Empty,
     Crate,
@@ -32,7 +34,7 @@ pub enum Fixed {
 }
 
 // Where a specifier's text comes from: a part of the record's bytes, a fixed text, a number, or the last so many components of a path.
-#[derive(Drop)]
+#[derive(Clone, Copy)]
 pub enum Wording {
     Part(usize, usize),
     Fixed(Fixed),

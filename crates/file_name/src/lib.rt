@@ -1,4 +1,6 @@
 // "`{f}` repeated n times: the last n path components joined by `/`".
+#![tactic(auto)]
+
 ghost use Rattle.std.specs.Prelude.{◌≡◌, ◌+◌, ◌<◌, ◌≤◌, ◌^◌, length};
 ghost use Rattle.buffer.specs.Buffer.{Puts};
 ghost use Rattle.paths.specs.Paths.{slashed};

@@ -1,5 +1,7 @@
 // The format of a specifier or a group: what is asked for, with defaults and the level's colour in the places left open. The level goes by its
 // number: most segments ask for no colour of a level, and then the number isn't taken apart.
+#![tactic(auto)]
+
 ghost use Rattle.std.specs.Prelude.{◌≡◌};
 ghost use Rattle.record.specs.Levels.{level_of};
 ghost use Rattle.formats.specs.Levels.{ink_for};

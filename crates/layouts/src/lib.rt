@@ -1,5 +1,7 @@
 // A comparison laid out: runs of text one after the other, each in a look of its own and without width, measured, counted and written. So a layout
 // needs no buffer, and a sequence that begins in one run and ends in the next is measured as what it is.
+#![tactic(auto)]
+
 ghost use Rattle.std.specs.Prelude.{◌≡◌, ◌+◌, ◌<◌, ◌≤◌, ◌^◌, length, get_or};
 ghost use Rattle.buffer.specs.Buffer.{Puts};
 ghost use Rattle.measure.specs.Measures.{grown, Small};
@@ -22,7 +24,7 @@ use words::{Alignment, Color, Padding, Styles};
 pub mod text;
 
 // A text in a look, and the place of the look's prefix.
-#[derive(Drop)]
+#[derive(Clone, Copy)]
 pub struct Run {
     pub format: Format,
     pub from: usize,

@@ -11,7 +11,7 @@ use measure::Measure;
 use measure::growing::add;
 
 // Where one stands: the head of the message, a part of the message, or a part of what every layout has.
-#[derive(Drop)]
+#[derive(Clone, Copy)]
 pub enum Text {
     Head(usize, usize),
     Part(usize, usize),

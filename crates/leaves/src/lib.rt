@@ -1,4 +1,6 @@
 // The segments that hold no other: parts of the template, and what specifiers show of a record.
+#![tactic(auto)]
+
 ghost use Rattle.std.specs.Prelude.{◌≡◌, ◌+◌, ◌<◌, ◌≤◌, ◌^◌, length};
 ghost use Rattle.buffer.specs.Bytes.{part};
 ghost use Rattle.buffer.specs.Buffer.{Puts};

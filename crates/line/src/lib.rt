@@ -1,4 +1,6 @@
 // A whole line: its segments measured, then written with the padding and the insertions that the table tells.
+#![tactic(auto)]
+
 ghost use Rattle.std.specs.Prelude.{◌≡◌, ◌+◌, ◌≤◌, length};
 ghost use Rattle.buffer.specs.Buffer.{Puts, Writes};
 ghost use Rattle.segments.specs.Sizes.{Low, Lows};

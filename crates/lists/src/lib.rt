@@ -1,4 +1,6 @@
 // Words and texts: what is read without going into a brace.
+#![tactic(auto)]
+
 ghost use Rattle.std.specs.Prelude.{◌≡◌, List, true, false, ℕ, ◌+◌, ◌-◌, ◌*◌, ◌≤◌, length, take};
 ghost use Rattle.buffer.specs.Bytes.{byte};
 ghost use Rattle.runs.specs.Runs.{run_end};

@@ -1,5 +1,7 @@
 // The members of a group from the first to the last, though their links in the pool lead back: a row of links that lead forward is made once
 // for a line. It has two bytes for each segment: the link to the member after it, and the link to the first of the members back from it.
+#![tactic(auto)]
+
 ghost use Rattle.std.specs.Prelude.{◌≡◌, ◌+◌, ◌*◌, ◌<◌, ◌≤◌, length};
 ghost use Rattle.members.specs.Links.{linked_by, links_forward, member_after};
 

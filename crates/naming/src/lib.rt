@@ -1,4 +1,6 @@
 // Whether a template names a specifier, at any depth.
+#![tactic(auto)]
+
 ghost use Rattle.std.specs.Prelude.{◌≡◌, ◌<◌, ◌≤◌, length};
 ghost use Rattle.segments.specs.Segments.{is_log, is_timestamp, is_wanted, named_in, named_among};
 ghost use Rattle.segments.specs.Pool.{segment_at, chain_at};

@@ -1,4 +1,6 @@
 // The line of one record's outcome, by a template that was read.
+#![tactic(auto)]
+
 ghost use Rattle.std.specs.Prelude.{◌≡◌, true, ◌+◌, ◌≤◌, length};
 ghost use Rattle.buffer.specs.Buffer.{Puts};
 ghost use Rattle.template.specs.Parsing.{ReadKeeps};

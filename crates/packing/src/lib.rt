@@ -1,4 +1,6 @@
 // What an entry answers, and one number for it.
+#![tactic(auto)]
+
 ghost use Rattle.std.specs.Prelude.{◌≡◌, ◌+◌, ◌*◌, ◌<◌, ◌^◌};
 ghost use Rattle.refusals.specs.Numbers.{number, value_with};
 ghost use Rattle.packing.specs.Packing.{answer_in, Packable, packed_answer};
@@ -6,7 +8,7 @@ ghost use Rattle.packing.specs.Packing.{answer_in, Packable, packed_answer};
 use refusals::{Refusal, number_of, value_with};
 
 // A line of so many bytes at the front of the lent buffer, or a refusal.
-#[derive(Drop)]
+#[derive(Clone, Copy)]
 pub enum Answer {
     Line(usize),
     Refused(Refusal),

@@ -1,4 +1,6 @@
 // What a list of words gives: a specifier, and how it asks to be written (in the crate: a part of `build_log_segment`).
+#![tactic(auto)]
+
 ghost use Rattle.std.specs.Prelude.{◌≡◌};
 ghost use Rattle.parts.specs.Parts.{no_parts, has_specifier, has_colour, has_width, has_style, with_style, asking, asks, with_specifier, with_parameter};
 
@@ -7,14 +9,14 @@ use words::{
 };
 
 // The specifier of a list of words, if one was read.
-#[derive(Drop)]
+#[derive(Clone, Copy)]
 pub enum Named {
     Nothing,
     Specifier(LogMetadata),
 }
 
 // What a list of words has given so far; `twice` once anything was given a second time.
-#[derive(Drop)]
+#[derive(Clone, Copy)]
 pub struct Parts {
     pub format: LogFormat,
     pub metadata: Named,

@@ -1,11 +1,13 @@
 // The components of a path, one after the other: what `{f}` is measured and written by.
+#![tactic(auto)]
+
 ghost use Rattle.std.specs.Prelude.{◌≡◌, ◌+◌, ◌-◌, ◌<◌, ◌≤◌, length, get_or, drop};
 ghost use Rattle.buffer.specs.Bytes.{byte, part};
 ghost use Rattle.paths.specs.Paths.{is_dropped, starts_with_dot, components};
 ghost use Rattle.paths.specs.Remaining.{remaining, before_rest, components_from, ComponentWithin, end_from, first_from, after_from, IsNext, IsFirstShown};
 
 // A component: the place of its first byte and the place after it.
-#[derive(Drop)]
+#[derive(Clone, Copy)]
 pub enum Component {
     At(usize, usize),
     Nothing,

@@ -1,4 +1,6 @@
 // The pool, which only grows: a segment is stored once, after its members, and never changed.
+#![tactic(auto)]
+
 ghost use Rattle.std.specs.Prelude.{◌≡◌, ◌<◌, ◌≤◌, length};
 ghost use Rattle.segments.specs.Segments.{text, specifier, group};
 ghost use Rattle.segments.specs.Pool.{cell, kind_at, format_at, link_below, back, last_member, chain_at, Adds};

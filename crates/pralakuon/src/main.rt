@@ -1,5 +1,7 @@
 // A session sheet on standard input, its lines on standard output; what went wrong with the whole sheet, or with the output, on the error output. A
 // program has no status to give, so that a word there is what a caller can go by.
+#![tactic(auto)]
+
 ghost use Rattle.session.specs.Walking.{Ready, Lies};
 
 use libc::{STDERR_FILENO, STDIN_FILENO, STDOUT_FILENO};

@@ -1,4 +1,6 @@
 // What the tablet's host calls: every entry takes numbers and lent bytes, and none asks anything of them.
+#![tactic(auto)]
+
 ghost use Rattle.std.specs.Prelude.{◌≡◌, ◌*◌, length};
 ghost use Rattle.answer.specs.Answers.{in_room, Meets, line_entry};
 ghost use Rattle.rooms.specs.Calls.{room_entry};

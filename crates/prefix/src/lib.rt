@@ -1,4 +1,6 @@
 // The prefix of a look: the colour sequence that switches its styles and its colour on.
+#![tactic(auto)]
+
 ghost use Rattle.std.specs.Prelude.{◌≡◌, ◌++◌, ◌+◌, ◌<◌, ◌≤◌, length, take};
 ghost use Rattle.colour.specs.Looks.{prefix, ink_codes};
 ghost use Rattle.prefix.specs.Opening.{between, codes_from, sequence_ended, foreground_at, Coded};

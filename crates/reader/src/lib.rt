@@ -1,4 +1,6 @@
 // Braces, contents and groups: a group holds braces and a brace may hold a group.
+#![tactic(auto)]
+
 ghost use Rattle.std.specs.Prelude.{◌≡◌, ℕ, ◌+◌, ◌-◌, ◌*◌, ◌<◌, ◌≤◌, length, take};
 ghost use Rattle.segments.specs.Segments.{is_specifier};
 ghost use Rattle.segments.specs.Pool.{segment_at};

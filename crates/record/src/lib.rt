@@ -1,4 +1,6 @@
 // A record: what a line is about, as it is laid out in bytes, and what its numbers mean.
+#![tactic(auto)]
+
 use words::Color;
 
 pub mod layout;
@@ -7,14 +9,14 @@ pub mod marks;
 pub mod numbers;
 
 // Who logged: the scan head, or the tablet itself.
-#[derive(Drop)]
+#[derive(Clone, Copy)]
 pub enum Source {
     Defmt,
     Host,
 }
 
 // The name of a level.
-#[derive(Drop)]
+#[derive(Clone, Copy)]
 pub enum Name {
     Error,
     Warn,
@@ -24,7 +26,7 @@ pub enum Name {
 }
 
 // What a level number means: a print without level, a level with its name and its colour, or nothing, so that the record is refused.
-#[derive(Drop)]
+#[derive(Clone, Copy)]
 pub enum Level {
     Print,
     Named(Name, Color),
@@ -32,14 +34,14 @@ pub enum Level {
 }
 
 // How a record is laid out: the new form has a fifth text, the serial of the head that measured.
-#[derive(Drop)]
+#[derive(Clone, Copy)]
 pub enum Form {
     Old,
     New,
 }
 
 // A record as numbers: what its bytes say, and the places of its texts in them.
-#[derive(Drop)]
+#[derive(Clone, Copy)]
 pub struct Places {
     pub source: usize,
     pub level: usize,

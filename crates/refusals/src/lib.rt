@@ -1,8 +1,10 @@
 // What is given instead of a line: the refusals of documents 01 and 02 by name, and their numbers.
+#![tactic(auto)]
+
 ghost use Rattle.std.specs.Prelude.{◌≡◌, ◌≤◌};
 ghost use Rattle.refusals.specs.Numbers.{number, value_with};
 
-#[derive(Drop)]
+#[derive(Clone, Copy)]
 pub enum Refusal {
     TemplateTooLong,
     TemplateNotUtf8,

@@ -1,4 +1,6 @@
 // Runs the stored list of the crate's answers through the library, and prints how many cases were run and how many parted.
+#![tactic(auto)]
+
 ghost use Rattle.std.specs.Prelude.{◌≡◌, ◌<◌, ◌≤◌, length};
 ghost use Rattle.buffer.specs.Bytes.{same};
 ghost use Rattle.outcomes.specs.Program.{session_outcome};
@@ -10,7 +12,7 @@ use packing::Answer;
 use refusals::{Refusal, number_of};
 
 // What became of a case.
-#[derive(Drop)]
+#[derive(Clone, Copy)]
 enum Verdict {
     Same,
     Parted,
@@ -18,7 +20,7 @@ enum Verdict {
     NoCase,
 }
 
-#[derive(Drop)]
+#[derive(Clone, Copy)]
 struct Tally {
     run: u32,
     parted: u32,

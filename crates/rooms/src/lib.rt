@@ -1,4 +1,6 @@
 // How much buffer is enough for a line.
+#![tactic(auto)]
+
 ghost use Rattle.std.specs.Prelude.{◌≡◌, true, length};
 ghost use Rattle.record.specs.Layout.{right_size, laid_out};
 ghost use Rattle.record.specs.Placed.{PlacesWithin};

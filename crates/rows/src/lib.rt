@@ -2,6 +2,8 @@
 // members are measured as a whole: each text goes on top of the measure of all before it, and what a group inserts and pads is looked up in a
 // table, which is filled segment by segment. So no text is measured more often than groups stand around it. The table has the lengths too: a
 // text with nothing around it is only counted, and a line is as long as its segments together.
+#![tactic(auto)]
+
 ghost use Rattle.std.specs.Prelude.{◌≡◌, ◌+◌, ◌*◌, ◌<◌, ◌≤◌, ◌^◌, length};
 ghost use Rattle.measure.specs.Measures.{grown, Small};
 ghost use Rattle.segments.specs.Sizes.{Low, Lows};
@@ -27,7 +29,7 @@ use widths::Rule;
 pub mod segment;
 
 // What is known of a segment before it is written: the padding that it gets, the bytes inserted into it, and how long it is in all.
-#[derive(Drop)]
+#[derive(Clone, Copy)]
 pub struct Row {
     pub padding: usize,
     pub inserted: usize,

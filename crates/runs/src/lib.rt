@@ -1,4 +1,6 @@
 // Bytes of a template at places, and runs of them. In place of a letter beyond ASCII stand marks, so that a letter is told by one byte.
+#![tactic(auto)]
+
 ghost use Rattle.std.specs.Prelude.{◌≡◌, ◌≤◌, ◌-◌, length};
 ghost use Rattle.runs.specs.Runs.{letter, digit, made_of, stands, run_end, letters_end, digits_end};
 

@@ -1,4 +1,6 @@
 // The search for colour sequences, a byte at a time.
+#![tactic(auto)]
+
 ghost use Rattle.std.specs.Prelude.{◌≡◌, cond, ◌+◌, ◌<◌, ◌^◌, eqb};
 ghost use Rattle.buffer.specs.Bytes.{byte};
 ghost use Rattle.colour.specs.declared.State.TheVariants.{LoneZero, Digits};

@@ -7,7 +7,7 @@ ghost use Rattle.segments.specs.Coding.{metadata_number, styles_number, width_nu
 use words::{Alignment, Color, LogColor, LogMetadata, Padding, Styles, Width};
 
 // A specifier's number, and the count that only `f` has.
-#[derive(Drop)]
+#[derive(Clone, Copy)]
 pub struct Coded {
     pub number: usize,
     pub count: usize,

@@ -1,11 +1,13 @@
 // Segments: what a template is read as, and the lent pool that holds them.
+#![tactic(auto)]
+
 use words::LogMetadata;
 
 pub mod coding;
 pub mod decoding;
 
 // What a segment of the pool is.
-#[derive(Drop)]
+#[derive(Clone, Copy)]
 pub enum Kind {
     Text,
     Group,
@@ -13,7 +15,7 @@ pub enum Kind {
 }
 
 // What a template is searched for at any depth.
-#[derive(Drop)]
+#[derive(Clone, Copy)]
 pub enum Wanted {
     Message,
     Time,

@@ -1,4 +1,6 @@
 // A whole session: the lines of all records of a sheet, or the refusal of the sheet.
+#![tactic(auto)]
+
 ghost use Rattle.std.specs.Prelude.{◌≡◌, length};
 ghost use Rattle.packing.specs.Packing.{Packable};
 ghost use Rattle.answer.specs.Answers.{in_room, answer_of, buffer_after};
@@ -16,7 +18,7 @@ pub mod records;
 pub mod walking;
 
 // A sheet whose template was read into so many segments, or the refusal of the whole sheet.
-#[derive(Drop)]
+#[derive(Clone, Copy)]
 pub enum Opened {
     Open(usize),
     Refused(Refusal),

@@ -10,7 +10,7 @@ use super::records::{put_record, record_length};
 use sheet::{body_count, body_length};
 
 // A place on the walk: how many records are left, where the length of the next one stands, where it begins.
-#[derive(Drop)]
+#[derive(Clone, Copy)]
 pub struct Walk {
     pub left: usize,
     pub i: usize,

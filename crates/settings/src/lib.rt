@@ -1,4 +1,6 @@
 // The settings byte.
+#![tactic(auto)]
+
 ghost use Rattle.std.specs.Prelude.{◌≡◌};
 ghost use Rattle.settings.specs.Bits.{is_known, settings_of, rule_of, edition_of, form_of};
 

@@ -1,1 +1,2 @@
 // What it means that a contract settles everything: no code.
+#![tactic(auto)]

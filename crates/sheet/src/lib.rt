@@ -1,4 +1,6 @@
 // The session sheet: what is laid out as one, and its bodies.
+#![tactic(auto)]
+
 ghost use Rattle.std.specs.Prelude.{◌≡◌, ◌+◌, ◌*◌, ◌≤◌, ◌<◌, ◌^◌, length};
 ghost use Rattle.record.specs.Layout.{u32};
 ghost use Rattle.sheet.specs.Sheets.{body_count, body_bytes, bodies_from, is_head, are_records, is_sheet};

@@ -1,4 +1,6 @@
 // Whether the letters at a place are a given word, and which word of a table they are.
+#![tactic(auto)]
+
 ghost use Rattle.std.specs.Prelude.{◌≡◌, ◌+◌, ◌-◌, ◌≤◌, min, length, replicate};
 ghost use Rattle.buffer.specs.Bytes.{byte, part, same};
 ghost use Rattle.runs.specs.Runs.{lower};

@@ -1,4 +1,6 @@
 // A whole template, under the crate's names (`parser.rs`), by either edition of the rules.
+#![tactic(auto)]
+
 ghost use Rattle.std.specs.Prelude.{◌≡◌, List, ℕ, ◌+◌, ◌≤◌, length};
 ghost use Rattle.letters.specs.Marked.{marked};
 ghost use Rattle.segments.specs.Pool.{chain_at};
@@ -16,14 +18,14 @@ use segments::Wanted;
 use unused::unused_in;
 
 // The rules that a template is read by: the strict ones refuse what the first read and leave something of it unused.
-#[derive(Drop)]
+#[derive(Clone, Copy)]
 pub enum Edition {
     First,
     Strict,
 }
 
 // A template that was read: how many segments it has. The last of them is the last of the top level.
-#[derive(Drop)]
+#[derive(Clone, Copy)]
 pub enum Parsed {
     Read(usize),
     Refused(Refusal),

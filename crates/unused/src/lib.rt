@@ -1,5 +1,7 @@
 // What a template that was read leaves unused: a second look at it, which asks again what fits where, and makes no segments. So it needs no pool, and the
 // reading itself is no slower for it.
+#![tactic(auto)]
+
 ghost use Rattle.std.specs.Prelude.{◌≡◌, not, ◌+◌, ◌≤◌, length};
 ghost use Rattle.words.specs.Trying.{fit};
 ghost use Rattle.unused.specs.Unused.{sooner, first_of, dropped_from, unused_in};
@@ -13,7 +15,7 @@ use reader::separator_of;
 const NONE: usize = 1024;
 
 // A content so far: where it ends, its first parameter, the first place that it leaves unused, whether it takes a group or inner segment.
-#[derive(Drop)]
+#[derive(Clone, Copy)]
 pub struct Look {
     pub end: usize,
     pub asked: usize,
@@ -22,14 +24,14 @@ pub struct Look {
 }
 
 // Where something ends, and the first place that it leaves unused.
-#[derive(Drop)]
+#[derive(Clone, Copy)]
 pub struct Seen {
     pub end: usize,
     pub unused: usize,
 }
 
 // The same, where it may not fit.
-#[derive(Drop)]
+#[derive(Clone, Copy)]
 pub enum Piece {
     Fit(usize, usize),
     Misfit,

@@ -1,5 +1,7 @@
 // The check that a text is UTF-8, by Unicode's table 3-7. ASCII is told by the greatest byte of a block. Beyond it a block is checked
 // without going from character to character: whether a byte may stand at its place is told by the three bytes before it.
+#![tactic(auto)]
+
 ghost use Rattle.std.specs.Prelude.{◌≡◌, [], ◌+◌, ◌-◌, ◌<◌, ◌≤◌, ltb, length};
 ghost use Rattle.utf8.specs.Utf8.{awaited, valid};
 ghost use Rattle.utf8.specs.Windows.{reached, top_of};

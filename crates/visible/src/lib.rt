@@ -1,4 +1,6 @@
 // What is visible of a text: its colour taken out. For who has a coloured line and wants the plain one.
+#![tactic(auto)]
+
 ghost use Rattle.std.specs.Prelude.{◌≡◌, ◌++◌, ◌+◌, ◌<◌, ◌≤◌, ◌^◌, length, drop};
 ghost use Rattle.buffer.specs.Bytes.{part};
 ghost use Rattle.buffer.specs.Buffer.{Puts, Writes};

@@ -1,9 +1,11 @@
 // What a text counts: its characters, or the places that it takes on a screen.
+#![tactic(auto)]
+
 pub mod counting;
 pub mod table;
 
 // "a width rule": what padding counts.
-#[derive(Drop)]
+#[derive(Clone, Copy)]
 pub enum Rule {
     // the crate's: each character is one
     Characters,
@@ -12,14 +14,14 @@ pub enum Rule {
 }
 
 // Of a character that has begun: how many of its bytes are still to come, and the bits that those before have said.
-#[derive(Drop)]
+#[derive(Clone, Copy)]
 pub struct Pending {
     pub awaited: u8,
     pub bits: u16,
 }
 
 // How many wide characters there were, and the one that has begun behind them.
-#[derive(Drop)]
+#[derive(Clone, Copy)]
 pub struct Wides {
     pub pending: Pending,
     pub wide: usize,

@@ -14,7 +14,7 @@ use measure::growing::add;
 const TEXTS: [u8; 58] = *b"<crate><file><mod path><time>ERRORWARNINFODEBUGTRACE<head>";
 
 // Where one of them stands.
-#[derive(Drop)]
+#[derive(Clone, Copy)]
 pub struct Place {
     pub from: usize,
     pub to: usize,

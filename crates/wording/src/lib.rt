@@ -1,4 +1,6 @@
 // A specifier's text, measured, counted and written: three functions that agree on `bytes_of`.
+#![tactic(auto)]
+
 ghost use Rattle.std.specs.Prelude.{◌≡◌, ◌+◌, ◌<◌, ◌≤◌, ◌^◌, length};
 ghost use Rattle.buffer.specs.Buffer.{Puts};
 ghost use Rattle.fields.specs.Wordings.{bytes_of, WordingWithin};

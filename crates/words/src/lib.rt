@@ -1,10 +1,12 @@
 // The words of a template: names and numbers, under the crate's names.
+#![tactic(auto)]
+
 use refusals::Refusal;
 
 pub mod parser;
 
 // What a specifier shows.
-#[derive(Drop)]
+#[derive(Clone, Copy)]
 pub enum LogMetadata {
     CrateName,
     FileName(u8),
@@ -18,7 +20,7 @@ pub enum LogMetadata {
 }
 
 // The foreground colours that a line can hold. No word asks for the last two: they are the colours of levels.
-#[derive(Drop)]
+#[derive(Clone, Copy)]
 pub enum Color {
     Black,
     Red,
@@ -33,7 +35,7 @@ pub enum Color {
 }
 
 // The colour that a segment asks for.
-#[derive(Drop)]
+#[derive(Clone, Copy)]
 pub enum LogColor {
     Unasked,
     Color(Color),
@@ -41,7 +43,7 @@ pub enum LogColor {
     WarnError,
 }
 
-#[derive(Drop)]
+#[derive(Clone, Copy)]
 pub enum Style {
     Bold,
     Italic,
@@ -50,27 +52,27 @@ pub enum Style {
     Dimmed,
 }
 
-#[derive(Drop)]
+#[derive(Clone, Copy)]
 pub enum Alignment {
     Left,
     Center,
     Right,
 }
 
-#[derive(Drop)]
+#[derive(Clone, Copy)]
 pub enum Padding {
     Space,
     Zero,
 }
 
 // The width that a segment asks for: 512 at most. What is copied from reader to reader holds its numbers narrow.
-#[derive(Drop)]
+#[derive(Clone, Copy)]
 pub enum Width {
     Default,
     Given(u16),
 }
 
-#[derive(Drop)]
+#[derive(Clone, Copy)]
 pub struct Styles {
     pub bold: bool,
     pub dimmed: bool,
@@ -80,7 +82,7 @@ pub struct Styles {
 }
 
 // How a specifier or a group asks to be written.
-#[derive(Drop)]
+#[derive(Clone, Copy)]
 pub struct LogFormat {
     pub styles: Styles,
     pub alignment: Alignment,
@@ -90,7 +92,7 @@ pub struct LogFormat {
 }
 
 // One parameter of a specifier or a group.
-#[derive(Drop)]
+#[derive(Clone, Copy)]
 pub enum Parameter {
     Color(LogColor),
     Style(Style),
@@ -99,7 +101,7 @@ pub enum Parameter {
 
 // What is found where a specifier is tried: the place after it and what it is, or a misfit, or a refusal. The place stands first, so that no gap
 // is left before it: an answer is copied with its gaps.
-#[derive(Drop)]
+#[derive(Clone, Copy)]
 pub enum MetadataRead {
     Fit(usize, LogMetadata),
     Misfit,
@@ -107,7 +109,7 @@ pub enum MetadataRead {
 }
 
 // What is found where a parameter is tried.
-#[derive(Drop)]
+#[derive(Clone, Copy)]
 pub enum FormatRead {
     Fit(usize, Parameter),
     Misfit,

@@ -1,0 +1,16 @@
+-- `buffer::put` meets its contract. The loop's invariant: the buffer is as it was with the bytes so far written. Assumes nothing.
+use Prim.Native.Nat.{ℕ, ◌≤◌, ◌+◌, ◌-◌}
+use lib.ListN.{length, take, get_or, set, length-set}
+use mathlib.Core.Path.{◌≡◌, refl, ap, sym, ◌∙◌}
+use mathlib.Core.List.{List}
+use Rattle.buffer.specs.Buffer.{put_at}
+use Rattle.buffer.proofs.Writing.{put_nil, put_next}
+use lib.Seq.{take_all}
+use borrow.Author.Rules.{rules}
+use Rattle.buffer.proofs.put.Given as goal
+
+abbrev pub invariant-loop-i : goal.invariant-loop-i
+invariant-loop-i l = (l.i ≤ length l.src) × ((l.dst ≡ put_at l.initial.dst l.at (take l.i l.src)) × (length l.dst ≡ length l.initial.dst))
+
+abbrev pub decreases-loop-i : goal.decreases-loop-i
+decreases-loop-i l = length l.src - l.i

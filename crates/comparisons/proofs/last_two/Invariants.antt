@@ -1,0 +1,12 @@
+-- `comparisons::last_two` meets its contract. Assumes nothing.
+use borrow.Author.Rules.{rules}
+use native.Mathlib.Omega.{arith}
+use Prim.Native.Nat.{◌-◌}
+use Rattle.comparisons.proofs.Walking.{Walked, few_none, few_one, walked_start, walked_turn, few_two, last_two_are}
+use Rattle.comparisons.proofs.last_two.Given as goal
+
+abbrev pub invariant-loop-next : goal.invariant-loop-next
+invariant-loop-next l = Walked l.d l.from l.to l.left l.stop l.right l.last l.next
+
+abbrev pub decreases-loop-next : goal.decreases-loop-next
+decreases-loop-next l = l.to - l.next

@@ -1,0 +1,11 @@
+-- `comparisons::spans_of` meets its contract. Assumes nothing.
+use borrow.Author.Rules.{rules}
+use Prim.Native.Nat.{◌-◌}
+use Rattle.comparisons.proofs.Laying.{spans_are}
+use Rattle.comparisons.proofs.spans_of.Goals as goal
+
+pub shared_end-rest-requires : goal.shared_end-rest-requires
+shared_end-rest-requires c = ((c.shared_beginning-begun.ensures.left_inside.1, c.requires.0.1), (c.shared_beginning-begun.ensures.right_inside.1, c.requires.1.1))
+
+pub returns : goal.returns
+returns c = spans_are _ c.args.head c.args.i c.args.e c.args.j c.args.f c.shared_beginning-begun.result c.shared_end-rest.result c.shared_beginning-begun.ensures c.shared_end-rest.ensures

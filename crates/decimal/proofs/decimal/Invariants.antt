@@ -1,0 +1,16 @@
+-- `decimal::decimal` meets its contract. The loop's invariant: the digits of what is left, then those written, are all; and there are places for those left. Assumes nothing.
+use borrow.Author.Rules.{rules}
+use Prim.Native.Nat.{◌≤◌, ◌<◌, ◌+◌, ◌-◌, ◌^◌}
+use mathlib.Core.Path.{◌≡◌, sym, ◌∙◌}
+use native.Mathlib.Omega.{arith}
+use mathlib.Core.List.{◌++◌}
+use lib.ListN.{length, drop, length-set}
+use Rattle.fields.specs.Texts.{digits, decimal_text}
+use Rattle.decimal.proofs.Digits.{room, fewer, digits_begin, digits_turn, digits_end_lem}
+use Rattle.decimal.proofs.decimal.Given as goal
+
+abbrev pub invariant-loop-left : goal.invariant-loop-left
+invariant-loop-left l = (l.i ≤ 9) × ((l.left < 10 ^ (l.i + 1)) × ((length l.into ≡ 10) × (digits (l.i + 1) l.left ++ drop (l.i + 1) l.into ≡ digits 10 l.n)))
+
+abbrev pub decreases-loop-left : goal.decreases-loop-left
+decreases-loop-left l = l.left

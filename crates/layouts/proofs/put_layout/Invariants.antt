@@ -1,0 +1,18 @@
+-- `layouts::put_layout` meets its contract. The loop's invariant: what is written and what is left are the whole. Assumes nothing.
+use Prim.Native.Nat.{◌+◌, ◌-◌, ◌≤◌}
+use mathlib.Core.Path.{◌≡◌, refl, ap, ◌∙◌}
+use native.Mathlib.Omega.{arith}
+use lib.ListN.{length}
+use Rattle.buffer.specs.Buffer.{put_at}
+use Rattle.buffer.proofs.Writing.{put_length}
+use Rattle.layouts.specs.Runs.{run_text, laid_text}
+use Rattle.layouts.proofs.Runs.{run_fits, runs_laid}
+use Rattle.layouts.proofs.Laying.{left_from, left_bytes, left_put, done_bytes, done_put}
+use Rattle.layouts.proofs.put_layout.Given as goal
+
+abbrev pub invariant-loop-k : goal.invariant-loop-k
+invariant-loop-k l = ((l.k ≤ 17) × ((l.at ≤ l.b) × (length l.out ≡ length l.initial.out)))
+    × ((l.b + length (left_from l.s l.d l.from l.c l.k) ≡ l.at + length (left_from l.s l.d l.from l.c 0)) × (put_at l.out l.b (left_from l.s l.d l.from l.c l.k) ≡ put_at l.initial.out l.at (left_from l.s l.d l.from l.c 0)))
+
+abbrev pub decreases-loop-k : goal.decreases-loop-k
+decreases-loop-k l = 17 - l.k

@@ -1,0 +1,19 @@
+-- `letters::doubt::doubts` meets its contract. The loop's invariant: the bytes passed were looked at. Assumes nothing.
+use borrow.Author.Rules.{rules}
+use Prim.Native.Nat.{ℕ, ◌+◌, ◌-◌, ◌≤◌}
+use mathlib.Core.Path.{◌≡◌, subst}
+use native.Mathlib.Omega.{arith}
+use Rattle.letters.specs.Doubting.{Looked}
+use Rattle.letters.proofs.Doubting.{looked_none, looked_more}
+use Rattle.letters.proofs.doubt.doubts.Goals as goal
+
+pub loop-k-init : goal.loop-k-init
+loop-k-init c = (search rules, looked_none _ _)
+
+pub loop-k-preserved : goal.loop-k-preserved
+loop-k-preserved c = (search rules, looked_more c.args.t.now c.args.from c.loop-k.k _ _ _ (omega arith) c.loop-k.invariant.1 c.doubt.ensures c.greater-worst.ensures)
+
+pub returns : goal.returns
+returns c =
+    let z : c.loop-k.k ≡ c.args.n = omega arith in
+    subst (λ (k : ℕ). Looked c.args.t.now c.args.from (c.args.from + k) c.loop-k.worst) z c.loop-k.invariant.1

@@ -1,0 +1,28 @@
+use Rattle.lists.proofs.Itemed.{plain_mode}
+use borrow.Author.Rules.{rules}
+use native.Mathlib.Omega.{arith}
+use Prim.Native.Nat.{ℕ, zero, suc, ◌+◌, ◌-◌, ◌*◌, ◌≤◌, ◌<◌}
+use mathlib.Core.Path.{◌≡◌, refl, sym, ap, subst, ◌∙◌}
+use mathlib.Core.List.{List, [], ◌∷◌, ◌++◌}
+use mathlib.Core.Bool.{Bool, true, false, not}
+use lib.ListN.{length, get_or}
+use Rattle.lists.proofs.parse_plain_item.Goals as goal
+
+pub parse_even_item-requires : goal.parse_even_item-requires
+parse_even_item-requires c = (c.requires.0, c.requires.1, c.requires.2, c.requires.3)
+
+pub returns-then-even : goal.returns-then-even
+returns-then-even c =
+    let it = (plain_mode _ _ _ _ _ _ _ c.parse_even_item.ensures.cells_after c.if-even.true, c.parse_even_item.ensures.1) in
+    record { cells_after = it.0; front = it.1.0; keeps = it.1.1 }
+
+pub parse_odd_item-requires : goal.parse_odd_item-requires
+parse_odd_item-requires c = (c.requires.0, c.requires.1, c.requires.3.narrow)
+
+pub returns : goal.returns
+returns c =
+    record {
+      cells_after = plain_mode _ _ _ _ _ _ _ (c.parse_odd_item.ensures.by_index _) c.if-even.false;
+      front = refl;
+      keeps = λ n d h. c.parse_odd_item.ensures.keeps n _ d _ h;
+    }

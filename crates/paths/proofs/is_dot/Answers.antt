@@ -1,0 +1,11 @@
+-- `paths::is_dot` meets its contract. Assumes nothing.
+use borrow.Author.Rules.{rules}
+use native.Mathlib.Omega.{arith}
+use Rattle.paths.proofs.Pieces.{dot_alone, longer}
+use Rattle.paths.proofs.is_dot.Goals as goal
+
+pub returns-then-to-from : goal.returns-then-to-from
+returns-then-to-from c = dot_alone _ _ _ (search rules) c.if-to-from.true
+
+pub returns : goal.returns
+returns c = longer _ _ _ (omega arith) c.requires.1

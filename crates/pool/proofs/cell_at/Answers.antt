@@ -1,0 +1,9 @@
+-- `pool::cell_at` meets its contract. Assumes nothing.
+use borrow.Author.Rules.{rules}
+use mathlib.Core.Path.{refl}
+use Rattle.segments.specs.Pool.{cell}
+use Rattle.pool.proofs.cell_at.Goals as goal
+
+pub returns : goal.returns
+unfolding cell
+returns c = refl

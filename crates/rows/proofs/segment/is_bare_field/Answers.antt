@@ -1,0 +1,32 @@
+-- `rows::segment::is_bare_field` meets its contract. Assumes nothing.
+use mathlib.Core.Path.{◌≡◌, refl, sym, ap, ◌∙◌}
+use mathlib.Core.List.{List}
+use mathlib.Core.Bool.{Bool, true, ◌&&◌, ◌||◌}
+use Prim.Native.Nat.{ℕ}
+use borrow.Author.Rules.{rules}
+use Rattle.words.specs.declared.LogMetadata.{LogMetadata}
+use Rattle.record.specs.declared.Source.{Source}
+use Rattle.leaves.specs.Places.{has_comparison, source_by}
+use Rattle.leaves.proofs.Naming.{not_log}
+use Rattle.rows.specs.Texts.{is_host, bare_by, bare_from}
+use Rattle.rows.proofs.segment.is_bare_field.Goals as goal
+
+bare_host : (n : List ℕ) (m : LogMetadata) → m ≡ LogMetadata.Log → source_by n ≡ Source.Host → true ≡ bare_from (bare_by n) m
+unfolding bare_from bare_by is_host
+bare_host n m e q = sym (ap (bare_from (bare_by n)) e ∙ ap (λ (x : Source). is_host x || has_comparison n) q)
+
+bare_device : (n : List ℕ) (m : LogMetadata) (b : Bool) → m ≡ LogMetadata.Log → source_by n ≡ Source.Defmt → b ≡ has_comparison n → b ≡ bare_from (bare_by n) m
+unfolding bare_from bare_by is_host
+bare_device n m b e q h = h ∙ sym (ap (bare_from (bare_by n)) e ∙ ap (λ (x : Source). is_host x || has_comparison n) q)
+
+pub returns-in_default : goal.returns-in_default
+unfolding bare_from
+returns-in_default c = sym (ap (λ (b : Bool). b && bare_by c.args.numbers.now) (not_log c.args.m c.in_default.keys2))
+
+pub returns-in_default-source : goal.returns-in_default-source
+unfolding source_by
+returns-in_default-source c = bare_host c.args.numbers.now c.args.m c.in-Log.is (sym c.source_of-source.ensures ∙ c.in_default-source.is)
+
+pub returns : goal.returns
+unfolding source_by has_comparison
+returns c = bare_device c.args.numbers.now c.args.m _ c.in-Log.is (sym c.source_of-source.ensures ∙ c.in-Defmt.is) refl

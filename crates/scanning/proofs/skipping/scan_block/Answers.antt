@@ -1,0 +1,14 @@
+-- `scanning::skipping::scan_block` meets its contract: a text without byte 27 moves nothing where no sequence has begun. Assumes nothing.
+use native.Mathlib.Omega.{arith}
+use borrow.Author.Rules.{rules}
+use mathlib.Core.Path.{◌≡◌, sym, ◌∙◌}
+use borrow.Author.Tests.{not-false}
+use Rattle.colour.proofs.Scanning.{scan_free}
+use Rattle.scanning.proofs.Rests.{rests_outside}
+use Rattle.scanning.proofs.skipping.scan_block.Goals as goal
+
+pub returns : goal.returns
+returns c =
+    let h = rests_outside c.args.t.state c.args.t.held (sym c.rests.ensures ∙ c.if-not-rests.false) in
+    let z : c.escapes.result ≡ 0 = omega arith in
+    sym (scan_free c.args.s.now (c.escapes.ensures z) c.args.t h.0 h.1)

@@ -1,0 +1,29 @@
+-- `scanning::skipping::scan_bytes` meets its contract. The invariant: the search of the rest from here is the search of the whole.
+-- Assumes nothing.
+use native.Mathlib.Omega.{arith}
+use borrow.Author.Rules.{rules}
+use mathlib.Core.Path.{◌≡◌, ap, sym, ◌∙◌}
+use Prim.Native.Nat.{◌≤◌, ◌+◌, ◌-◌}
+use lib.ListN.{length, drop, get_or}
+use Rattle.colour.specs.declared.Scan.{Scan}
+use Rattle.colour.specs.Machine.{act_of, moved, scan}
+use Rattle.colour.proofs.Scanning.{scan_step, scan_end, sequences_grow, resets_grow}
+use Rattle.scanning.proofs.skipping.scan_bytes.Goals as goal
+
+pub loop-i-preserved : goal.loop-i-preserved
+loop-i-preserved c =
+    let s = c.args.s.now in
+    let a = act_of c.loop-i.u.state (get_or s c.loop-i.i 0) in
+    let e : c.step-u.result ≡ moved a c.loop-i.u = c.step-u.ensures in (
+      search rules,
+      (
+        ap (λ (v : Scan). scan v (drop (c.loop-i.i + 1) s)) e ∙ sym (scan_step c.loop-i.u s c.loop-i.i c.loop-i-test.true) ∙ c.loop-i.invariant.1.0,
+        (
+          omega (arith, ap (λ (v : Scan). v.held) e, ap (λ (v : Scan). v.sequences) e, sequences_grow a c.loop-i.u, c.loop-i.invariant.1.1.0),
+          omega (arith, ap (λ (v : Scan). v.resets) e, resets_grow a c.loop-i.u, c.loop-i.invariant.1.1.1),
+        ),
+      ),
+    )
+
+pub returns : goal.returns
+returns c = sym (scan_end c.loop-i.u c.args.s.now c.loop-i.i c.loop-i-test.false) ∙ c.loop-i.invariant.1.0

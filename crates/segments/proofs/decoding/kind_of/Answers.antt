@@ -1,0 +1,46 @@
+-- `segments::decoding::kind_of` meets its contract. Assumes nothing.
+use native.Mathlib.Omega.{arith}
+use mathlib.Core.Path.{sym, ap}
+use Rattle.segments.specs.Pool.{entry, kinds}
+use Rattle.segments.specs.declared.Kind.{Kind}
+use Rattle.segments.proofs.Codes.{entry_past, above}
+use Rattle.segments.proofs.decoding.kind_of.Goals as goal
+
+pub overflow_cast-result : goal.overflow_cast-result
+overflow_cast-result c = omega arith
+
+pub returns-in-0 : goal.returns-in-0
+returns-in-0 c = sym (ap (entry Kind.Text (kinds _)) c.in-0.is)
+
+pub returns-in-1 : goal.returns-in-1
+returns-in-1 c = sym (ap (entry Kind.Text (kinds _)) c.in-1.is)
+
+pub returns-in-2 : goal.returns-in-2
+returns-in-2 c = sym (ap (entry Kind.Text (kinds _)) c.in-2.is)
+
+pub returns-in-3 : goal.returns-in-3
+returns-in-3 c = sym (ap (entry Kind.Text (kinds _)) c.in-3.is)
+
+pub returns-in-4 : goal.returns-in-4
+returns-in-4 c = sym (ap (entry Kind.Text (kinds _)) c.in-4.is)
+
+pub returns-in-5 : goal.returns-in-5
+returns-in-5 c = sym (ap (entry Kind.Text (kinds _)) c.in-5.is)
+
+pub returns-in-6 : goal.returns-in-6
+returns-in-6 c = sym (ap (entry Kind.Text (kinds _)) c.in-6.is)
+
+pub returns-in-7 : goal.returns-in-7
+returns-in-7 c = sym (ap (entry Kind.Text (kinds _)) c.in-7.is)
+
+pub returns-in-8 : goal.returns-in-8
+returns-in-8 c = sym (ap (entry Kind.Text (kinds _)) c.in-8.is)
+
+pub returns-in-9 : goal.returns-in-9
+returns-in-9 c = sym (ap (entry Kind.Text (kinds _)) c.in-9.is)
+
+pub returns-in-10 : goal.returns-in-10
+returns-in-10 c = sym (ap (entry Kind.Text (kinds _)) c.in-10.is)
+
+pub returns-in-11-to-max : goal.returns-in-11-to-max
+returns-in-11-to-max c = sym (entry_past _ (kinds _) _ (above 10 _ (above 9 _ (above 8 _ (above 7 _ (above 6 _ (above 5 _ (above 4 _ (above 3 _ (above 2 _ (above 1 _ (above 0 _ (omega arith) c.in-11-to-max.in-11-to-max-own.rest.0.0.0.0.0.0.0.0.0.0.1) c.in-11-to-max.rest.0.0.0.0.0.0.0.0.0.1) c.in-11-to-max.rest.0.0.0.0.0.0.0.0.1) c.in-11-to-max.rest.0.0.0.0.0.0.0.1) c.in-11-to-max.rest.0.0.0.0.0.0.1) c.in-11-to-max.rest.0.0.0.0.0.1) c.in-11-to-max.rest.0.0.0.0.1) c.in-11-to-max.rest.0.0.0.1) c.in-11-to-max.rest.0.0.1) c.in-11-to-max.rest.0.1) c.in-11-to-max.rest.1))

@@ -1,0 +1,16 @@
+-- `utf8::ascii::greatest` meets its contract. The loop's invariant: the greatest of the bytes passed. Assumes nothing.
+use borrow.Author.Rules.{rules}
+use mathlib.Core.Path.{◌≡◌, ap, sym, ◌∙◌}
+use native.Mathlib.Omega.{arith}
+use Prim.Native.Nat.{ℕ, ◌≤◌, ◌+◌, ◌-◌}
+use Rattle.buffer.specs.Bytes.{part}
+use Rattle.buffer.proofs.Parts.{part_end}
+use Rattle.utf8.specs.Windows.{top_of}
+use Rattle.utf8.proofs.Greatest.{top_more}
+use Rattle.utf8.proofs.ascii.greatest.Given as goal
+
+abbrev pub invariant-loop-k : goal.invariant-loop-k
+invariant-loop-k l = (l.k ≤ l.n) × (l.top ≡ top_of (part l.from (l.from + l.k) l.s))
+
+abbrev pub decreases-loop-k : goal.decreases-loop-k
+decreases-loop-k l = l.n - l.k

@@ -1,0 +1,14 @@
+-- `utf8::windows::flaws_of_two` meets its contract. The loop's invariant: the places passed are judged. Assumes nothing.
+use borrow.Author.Rules.{rules}
+use mathlib.Core.Path.{◌≡◌, subst}
+use Prim.Native.Nat.{ℕ, ◌≤◌, ◌+◌, ◌-◌}
+use native.Mathlib.Omega.{arith}
+use Rattle.utf8.specs.Windows.{Checked}
+use Rattle.utf8.proofs.Checking.{checked_none, checked_more}
+use Rattle.utf8.proofs.windows.flaws_of_two.Given as goal
+
+abbrev pub invariant-loop-k : goal.invariant-loop-k
+invariant-loop-k l = (l.k ≤ l.n) × Checked l.s (l.from + 3) (l.from + 3 + l.k) l.worst
+
+abbrev pub decreases-loop-k : goal.decreases-loop-k
+decreases-loop-k l = l.n - l.k

@@ -1,0 +1,27 @@
+-- `visible::sequence_len` meets its contract. Assumes nothing.
+use borrow.Author.Rules.{rules}
+use native.Mathlib.Omega.{arith}
+use Prim.Native.Nat.{ℕ, ◌+◌, ◌<◌, ◌≤◌}
+use lib.ListN.{length}
+use mathlib.Core.Path.{◌≡◌, ap, sym, subst, ◌∙◌}
+use Rattle.colour.specs.Sequences.{longer}
+use Rattle.visible.proofs.Sequences.{escape_at, no_escape, sequence_ends, longer_within}
+use Rattle.visible.proofs.sequence_len.Goals as goal
+
+pub returns-then-i-s : goal.returns-then-i-s
+returns-then-i-s c = (sym (sequence_ends c.args.s.now c.args.i (omega (arith, c.if-i-s.true))), omega (arith, c.requires))
+
+pub returns-then-s-i-ne27 : goal.returns-then-s-i-ne27
+returns-then-s-i-ne27 c =
+    let h = c.if-i-s.false in
+    (sym (no_escape c.args.s.now c.args.i (omega (arith, h, c.requires)) c.if-s-i-ne27.true), omega (arith, c.requires))
+
+pub returns : goal.returns
+returns c =
+    let s = c.args.s.now in
+    let i = c.args.i in
+    let l : i < length s = omega (arith, c.if-i-s.false, c.requires) in
+    let x : c.one_longer.result ≡ longer c.bracket_len.result = c.one_longer.ensures in (
+      x ∙ ap longer c.bracket_len.ensures.0 ∙ sym (escape_at s i l c.if-s-i-ne27.false),
+      subst (λ (k : ℕ). i + k ≤ length s) (sym x) (longer_within i c.bracket_len.result (length s) l c.bracket_len.ensures.1),
+    )
