@@ -7,8 +7,8 @@ use std::{env, fs, process};
 const VARIABLE: &str = "PRALAKUON_ARCHIVE";
 const ARCHIVE: &str = "libpralakuon_c.a";
 
-/// The entry that archives before 0.7.0 don't have.
-const NEWEST: &[u8] = b"pralakuon_room";
+/// The entry that archives before 0.2.0 don't have.
+const NEWEST: &[u8] = b"pralakuon_version";
 
 fn main() {
     println!("cargo:rerun-if-env-changed={VARIABLE}");
@@ -62,7 +62,7 @@ fn left_by_script(host: &Path) -> Result<PathBuf, String> {
 }
 
 /// An archive for another processor would be passed over by the linker, and all entries would seem to be missing. One
-/// that is too old lacks an entry, so that the linker would end the build before versions can be compared.
+/// that is too old has no version to be compared.
 fn fit(archive: &Path) -> Result<(), String> {
     let bytes = fs::read(archive).map_err(|error| format!("{} cannot be read: {error}", archive.display()))?;
     let members = members(&bytes).ok_or_else(|| format!("{} is not laid out as an archive", archive.display()))?;
@@ -72,7 +72,7 @@ fn fit(archive: &Path) -> Result<(), String> {
             Err(format!("{} is for {processor}, and this build is for {wanted}: {}", archive.display(), right_one()))
         }
         _ if !bytes.windows(NEWEST.len()).any(|name| name == NEWEST) => {
-            Err(format!("{} is older than version 0.7.0: run host/archive to make it anew", archive.display()))
+            Err(format!("{} is older than version 0.2.0: run host/archive to make it anew", archive.display()))
         }
         _ => Ok(()),
     }

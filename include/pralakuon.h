@@ -6,8 +6,8 @@
  * too long cannot be noticed here, nor by a sanitizer, which does not see into the archive; valgrind notices it.
  *
  * Each call answers one number: a refusal's number in the low eight bits (0: none), a value in the others. The value is
- * a length with what was written or told and with refusal 13, a place with refusal 17, and 0 with every other refusal. A
- * refusal leaves lent memory as it was found; an accepted call changes only its own bytes at the front of `out`.
+ * a length with what was written and with refusal 13, a place with refusal 17, and 0 with every other refusal. A refusal
+ * leaves lent memory as it was found; an accepted call changes only its own bytes at the front of `out`.
  *
  * What the archive libpralakuon_c.a needs of its surroundings:
  * - memcpy and memset, and nothing else to link; on Apple's arm64 bzero, too, which the system's library has. No other
@@ -124,15 +124,10 @@ enum pralakuon_style {
 #define PRALAKUON_SHEET_BYTES_MAX 65536
 #define PRALAKUON_SESSION_LINE_BYTES_MAX 65536
 
-/* What the room of a line has beside the texts shown and the widths (see pralakuon_room): with colour so much for each text,
- * specifier and group of the template, and so much for each {s} that shows a comparison report. */
-#define PRALAKUON_ROOM_PER_SEGMENT 124
-#define PRALAKUON_ROOM_PER_REPORT 1252
-
 /* The version of this header. A caller made for MAJOR.MINOR works with every archive of the same MAJOR.MINOR. */
 #define PRALAKUON_VERSION_MAJOR 0
-#define PRALAKUON_VERSION_MINOR 7
-#define PRALAKUON_VERSION_PATCH 0
+#define PRALAKUON_VERSION_MINOR 6
+#define PRALAKUON_VERSION_PATCH 1
 #define PRALAKUON_VERSION (65536 * PRALAKUON_VERSION_MAJOR + 256 * PRALAKUON_VERSION_MINOR + PRALAKUON_VERSION_PATCH)
 
 /* The refusal in an answer, or 0, and the value in it: a length, or the place with refusal 17, which is the number of
@@ -153,26 +148,6 @@ static inline uint64_t pralakuon_place_of(uint64_t answer) { return answer >> 8;
  * apply to it, those of a group around it do. */
 uint64_t pralakuon_line(const uint8_t *template_, size_t template_len, uint8_t settings, const uint8_t *record,
                         size_t record_len, uint8_t *out, size_t out_len);
-
-/* How much room is enough for the line of a record, as a length. Template, settings and record are those of the line
- * call, and so are the refusals in their order, but 13 is never given. No buffer is lent, and no line is made for it.
- *
- * Proved: where no text of the template and of the record holds byte 27, with which colour begins, a line call with so much
- * room is not refused with 13. Where one does, a room is told as well, and the line may be longer.
- *
- * The room is a sum over all texts, specifiers and groups of the template, at any depth:
- * - for a text its bytes;
- * - for a specifier the bytes of what it shows, also of a word such as `<file>`, and its width, which is 5 for {L} and 4
- *   for {l} where none is asked for; for a {s} that shows a comparison report PRALAKUON_ROOM_PER_REPORT more; for the {s}
- *   of a host's record the bytes of the message alone;
- * - for a group its width;
- * - with PRALAKUON_COLOUR for each of them PRALAKUON_ROOM_PER_SEGMENT more.
- * For a print it is the bytes of the message, whatever the template says; for one that is a comparison report the bytes of
- * its layout without colour, at most 6 more than those of the message, and PRALAKUON_ROOM_PER_REPORT.
- *
- * One buffer is enough for many lines if it has the sum of the most that can come of each part. */
-uint64_t pralakuon_room(const uint8_t *template_, size_t template_len, uint8_t settings, const uint8_t *record,
-                        size_t record_len);
 
 /* The lines of a session sheet: for each record its line or `! N`, N being its refusal, and a newline. The settings byte in
  * it says how all its records are laid out; sheets from before there were heads have no PRALAKUON_HEADS. A sheet that is

@@ -15,13 +15,6 @@ extern "C" {
         out: *mut c_uchar,
         out_len: usize,
     ) -> u64;
-    fn pralakuon_room(
-        template: *const c_uchar,
-        template_len: usize,
-        settings: u8,
-        record: *const c_uchar,
-        record_len: usize,
-    ) -> u64;
     fn pralakuon_session(sheet: *const c_uchar, sheet_len: usize, out: *mut c_uchar, out_len: usize) -> u64;
     fn pralakuon_check(template: *const c_uchar, template_len: usize, settings: u8) -> u64;
     fn pralakuon_timestamp(template: *const c_uchar, template_len: usize, settings: u8) -> u64;
@@ -49,13 +42,6 @@ pub fn line(template: &[u8], settings: u8, record: &[u8], out: &mut [u8]) -> u64
             out.len(),
         )
     }
-}
-
-/// The room that is enough for the line of a record, as a length. The refusals are those of a line call, but never 13.
-#[must_use]
-pub fn room(template: &[u8], settings: u8, record: &[u8]) -> u64 {
-    // SAFETY: two slices, which are only read.
-    unsafe { pralakuon_room(template.as_ptr(), template.len(), settings, record.as_ptr(), record.len()) }
 }
 
 /// The lines of all records of a session sheet, at the front of `out`.
@@ -106,7 +92,7 @@ pub fn refusal_of(answer: u64) -> u8 {
     (answer & 255) as u8
 }
 
-/// The length in an answer: of what was written, of what is enough, or of what is needed where the refusal is 13.
+/// The length in an answer: of what was written, or of what is needed where the refusal is 13.
 #[must_use]
 pub fn length_of(answer: u64) -> usize {
     (answer >> 8) as usize

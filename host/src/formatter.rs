@@ -2,9 +2,7 @@
 
 use crate::room::{grown, FIRST_ROOM};
 use crate::scratch::{lent, LINE};
-use crate::{
-    line, names_timestamp, room_for, Bounds, FormatterConfig, HostRecord, RawRecord, Record, Refusal, Settings,
-};
+use crate::{line, names_timestamp, FormatterConfig, HostRecord, RawRecord, Record, Refusal, Settings};
 use std::io;
 
 /// The methods of both formatters, which differ in the records that they take.
@@ -31,8 +29,7 @@ macro_rules! formatter {
             /// Writes the line of a record to the front of `out` and gives its length.
             ///
             /// Nothing is allocated but the room in which records are laid out: each thread makes it once and keeps it,
-            /// some 32 KiB at most. [`room_for`](Self::room_for) tells beforehand how many bytes are enough for a record,
-            /// and [`largest_room`](Self::largest_room) how many for all that may come.
+            /// some 32 KiB at most.
             ///
             /// ```
             /// use pralakuon::*;
@@ -54,57 +51,6 @@ macro_rules! formatter {
             /// short. A refusal leaves `out` as it was.
             pub fn format_into(&self, record: &$record, out: &mut [u8]) -> Result<usize, Refusal> {
                 self.lines.format_into(record.into(), out)
-            }
-
-            /// How many bytes of buffer are enough for the line of a record. No line is made for it, and the line may be
-            /// shorter.
-            ///
-            /// With so many bytes [`format_into`](Self::format_into) never answers
-            /// [`LineTooLong`](Refusal::LineTooLong), as long as no text of the template and of the record holds byte 27,
-            /// with which colour begins. The [overview](crate#how-much-buffer-is-enough) says of what it is the sum.
-            ///
-            /// ```
-            /// use pralakuon::*;
-            ///
-            /// let config = FormatterConfig::custom("[{L}] {s}");
-            #[doc = concat!("let formatter = ", stringify!($formatter), "::new(config)?;")]
-            #[doc = concat!("let record = ", stringify!($record), "::new(Level::Info, \"hello\");")]
-            /// let mut out = vec![0; formatter.room_for(&record)?];
-            /// assert_eq!(out.len(), 1 + (4 + 5) + 2 + 5);
-            /// let length = formatter.format_into(&record, &mut out)?;
-            /// assert_eq!(&out[..length], b"[INFO ] hello");
-            /// # Ok::<(), Refusal>(())
-            /// ```
-            ///
-            /// # Errors
-            /// As [`format`](Self::format).
-            pub fn room_for(&self, record: &$record) -> Result<usize, Refusal> {
-                self.lines.room_for(record.into())
-            }
-
-            /// The largest that [`room_for`](Self::room_for) tells of any record whose texts are within these bounds: one
-            /// buffer of so many bytes is enough for all of them.
-            ///
-            /// ```
-            /// use pralakuon::*;
-            ///
-            /// let config = FormatterConfig::custom("[{L}] {s}").with_settings(Settings::STRAIGHT_COLOUR);
-            #[doc = concat!("let formatter = ", stringify!($formatter), "::new(config)?;")]
-            /// // No message has more than 40 bytes, and no other text is shown.
-            /// let mut out = vec![0; formatter.largest_room(&Bounds::new().with_message(40))?];
-            /// for reading in 0..4_000 {
-            ///     let message = format!("reading {reading}");
-            #[doc = concat!("    let record = ", stringify!($record), "::new(Level::Info, &message);")]
-            ///     let length = formatter.format_into(&record, &mut out)?; // never refused with 13
-            ///     assert!(out[..length].ends_with(message.as_bytes()));
-            /// }
-            /// # Ok::<(), Refusal>(())
-            /// ```
-            ///
-            /// # Errors
-            /// [`OtherVersion`](Refusal::OtherVersion) alone: no record within the bounds is refused.
-            pub fn largest_room(&self, bounds: &Bounds) -> Result<usize, Refusal> {
-                bounds.largest_room($host, |record| self.lines.room_for(record))
             }
 
             /// Puts the line of a record at the end of a text, without a newline. A text that is used again and again
@@ -235,10 +181,6 @@ impl Lines {
 
     fn format_into(&self, record: RawRecord, out: &mut [u8]) -> Result<usize, Refusal> {
         line(self.template.as_bytes(), self.settings, record, out)
-    }
-
-    fn room_for(&self, record: RawRecord) -> Result<usize, Refusal> {
-        room_for(self.template.as_bytes(), self.settings, record)
     }
 
     /// Makes the line at the front of the thread's room and hands that on with the line's length.

@@ -105,38 +105,6 @@
 //!
 //! So a line may hold newlines. The host's own messages are never laid out.
 //!
-//! # How much buffer is enough
-//!
-//! [`Formatter::room_for`] tells it for a record, and [`Formatter::largest_room`] for all records whose texts are within
-//! [`Bounds`]. So a buffer can be reserved once, before there is a record.
-//!
-//! ```
-//! use pralakuon::{Bounds, Formatter, FormatterConfig, Level, Record, Settings};
-//!
-//! let config = FormatterConfig::custom("{t:>12} [{L}] {s}").with_settings(Settings::STRAIGHT_COLOUR);
-//! let formatter = Formatter::new(config)?;
-//! let bounds = Bounds::new().with_timestamp(9).with_message(80);
-//! let mut out = vec![0; formatter.largest_room(&bounds)?];
-//! for (timestamp, message) in [("0.002500", "wall B3 crack 0.412 mm"), ("0.005000", "wheel slipped")] {
-//!     let record = Record::new(Level::Info, message).with_timestamp(timestamp);
-//!     assert!(formatter.room_for(&record)? <= out.len());
-//!     let length = formatter.format_into(&record, &mut out)?;
-//!     assert!(out[..length].ends_with(message.as_bytes()));
-//! }
-//! # Ok::<(), pralakuon::Refusal>(())
-//! ```
-//!
-//! A line is never longer than what is told for it, as long as no text of the template and of the record holds byte 27,
-//! with which colour begins: that is proved. It may well be shorter, since no line is made for it. What is told is a sum:
-//! - the bytes of all texts that the line shows: the template's own, the record's, and words such as `<file>`;
-//! - all widths, of specifiers and of groups; where none is asked for, `{L}` has 5 and `{l}` 4. The `{s}` of a host's
-//!   record has none;
-//! - with colour, 124 for each segment of the template, which is a text, a specifier or a group;
-//! - 1,252 for each `{s}` that shows a comparison report.
-//!
-//! For a print it is the bytes of its message. For one that is a comparison report it is the bytes of its layout without
-//! colour, and 1,252.
-//!
 //! # Session sheets
 //!
 //! A sheet holds a template and records, so that the same lines can be made of them years later. [`SheetWriter`] writes
@@ -169,10 +137,8 @@
 #![warn(clippy::undocumented_unsafe_blocks)]
 
 mod answer;
-mod bounds;
 mod bytes;
 mod config;
-mod enough;
 // The one place where the archive is called.
 #[allow(unsafe_code)]
 pub mod entries;
@@ -193,9 +159,7 @@ mod template;
 mod version;
 mod visible;
 
-pub use bounds::Bounds;
 pub use config::{FormatterConfig, FormatterFormat};
-pub use enough::room_for;
 pub use formatter::{Formatter, HostFormatter};
 pub use level::{Level, UnknownLevel};
 pub use line::line;

@@ -2,6 +2,7 @@
 
 use crate::answer::asked;
 use crate::form::Form;
+use crate::scratch::{lent, RECORD};
 use crate::{entries, RawRecord, Refusal, Settings};
 
 /// Writes the line of a record, by a template of any bytes, to the front of `out` and gives its length.
@@ -9,8 +10,7 @@ use crate::{entries, RawRecord, Refusal, Settings};
 /// Nothing is allocated but the room in which records are laid out, which each thread makes once and keeps. A line
 /// changes only its own bytes. Any kind of record can be given. For those of a [`Sheet`](crate::Sheet) there is
 /// [`Sheet::lines`](crate::Sheet::lines): a sheet says for all its records whether they are laid out with heads, and here
-/// a record is where it has one, or where its mask says so. [`room_for`](crate::room_for) tells beforehand how many bytes
-/// are enough.
+/// a record is where it has one, or where its mask says so.
 ///
 /// ```
 /// use pralakuon::{line, Level, Record, Refusal, Settings};
@@ -46,5 +46,10 @@ pub(crate) fn line_in(
     record: RawRecord,
     out: &mut [u8],
 ) -> Result<usize, Refusal> {
-    record.laid_out(form, |bytes| asked(|| entries::line(template, form.byte(settings), bytes, out)))
+    let record = record.cut();
+    lent(&RECORD, |room| {
+        room.clear();
+        record.lay_out(form, room);
+        asked(|| entries::line(template, form.byte(settings), room, out))
+    })
 }

@@ -2,7 +2,6 @@
 
 use crate::bytes::Bytes;
 use crate::form::Form;
-use crate::scratch::{lent, RECORD};
 use crate::{HostRecord, Level, Record};
 
 /// One byte more than a field may have. A text cut here is refused as the whole would be, with 11, and it has a length
@@ -174,7 +173,7 @@ impl<'a> RawRecord<'a> {
     }
 
     /// The same record with texts that can be laid out. A cut text is still refused.
-    fn cut(self) -> Self {
+    pub(crate) fn cut(self) -> Self {
         let cut = |text: &'a [u8], longest| text.get(..longest).unwrap_or(text);
         RawRecord {
             file: cut(self.file, CUT),
@@ -219,15 +218,6 @@ impl<'a> RawRecord<'a> {
         for text in &self.texts()[..form.texts()] {
             out.extend_from_slice(text);
         }
-    }
-
-    /// Lays it out in the room that the thread keeps for it, with its texts cut, and lends that.
-    pub(crate) fn laid_out<T>(self, form: Form, work: impl FnOnce(&[u8]) -> T) -> T {
-        lent(&RECORD, |room| {
-            room.clear();
-            self.cut().lay_out(form, room);
-            work(room)
-        })
     }
 
     /// None for a body of the wrong size.

@@ -62,11 +62,11 @@ fn archive(name: &str, object: &[u8]) -> Vec<u8> {
 }
 
 fn elf(machine: u16) -> Vec<u8> {
-    [&b"\x7fELF\x02\x01\x01\0\0\0\0\0\0\0\0\0\x01\0"[..], &machine.to_le_bytes(), b"\0pralakuon_room\0"].concat()
+    [&b"\x7fELF\x02\x01\x01\0\0\0\0\0\0\0\0\0\x01\0"[..], &machine.to_le_bytes(), b"\0pralakuon_version\0"].concat()
 }
 
 fn mach_o(processor: u32) -> Vec<u8> {
-    [&b"\xcf\xfa\xed\xfe"[..], &processor.to_le_bytes(), b"\0_pralakuon_room\0"].concat()
+    [&b"\xcf\xfa\xed\xfe"[..], &processor.to_le_bytes(), b"\0_pralakuon_version\0"].concat()
 }
 
 fn leave(folder: PathBuf, archive: &[u8]) {
@@ -143,11 +143,9 @@ fn an_archive_for_another_processor() {
 #[test]
 fn an_archive_that_is_too_old() {
     let scene = scene("old");
-    // It has a version and no room.
-    let object = [&elf(62)[..20], b"\0pralakuon_line\0pralakuon_version\0"].concat();
-    leave(scene.join("there"), &archive("a.o/", &object));
+    leave(scene.join("there"), &archive("a.o/", &elf(62)[..24]));
     let said = run(&scene, "x86_64-some-system", scene.join("there").to_str()).unwrap_err();
-    let expected = "is older than version 0.7.0: run host/archive to make it anew";
+    let expected = "is older than version 0.2.0: run host/archive to make it anew";
     assert_eq!(said, format!("pralakuon: SCENE/there/libpralakuon_c.a {expected}"));
 }
 

@@ -116,7 +116,7 @@ fn the_archive_needs_memcpy_and_memset_and_has_no_data() {
         symbols.lines().filter_map(|line| line.rsplit_once(kind)).map(|(_, name)| name.to_string()).collect()
     };
     assert_eq!(of_kind(" U "), BTreeSet::from(["memcpy", "memset"].map(String::from)));
-    let entries = ["line", "room", "session", "check", "timestamp", "builtin", "visible", "version"];
+    let entries = ["line", "session", "check", "timestamp", "builtin", "visible", "version"];
     assert_eq!(of_kind(" T "), BTreeSet::from(entries.map(|entry| format!("pralakuon_{entry}"))));
     // A row for each object: code and constants, data, data that is zero at first.
     let sizes = run(Command::new("size").arg(&archive));

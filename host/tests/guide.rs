@@ -1,8 +1,7 @@
 //! The examples of docs/GUIDE.md: each is run, and prints what the guide says; its code is code that is run. A block of
-//! `lines` has examples of one line each, one of `rooms` the room in place of the line, and one of `message` the record of
-//! the `printed` ones and the rooms after it.
+//! `lines` has examples of one line each, one of `message` the record of the `printed` ones after it.
 
-use pralakuon::{entries, point_at, Bounds, Formatter, FormatterConfig, Level, Record, Refusal, Settings};
+use pralakuon::{entries, point_at, Formatter, FormatterConfig, Level, Record, Refusal};
 
 const GUIDE: &str = include_str!("../../docs/GUIDE.md");
 
@@ -78,29 +77,16 @@ fn laid_out(told: &Told) -> Vec<u8> {
 fn answered(told: &Told, template: &[u8]) -> Vec<u8> {
     let mut out = vec![0; 10_000];
     let answer = entries::line(template, told.settings, &laid_out(told), &mut out);
-    refused(answer).unwrap_or_else(|| out[..entries::length_of(answer)].to_vec())
-}
-
-/// The same of how much room is enough.
-fn enough(told: &Told, template: &[u8]) -> Vec<u8> {
-    let answer = entries::room(template, told.settings, &laid_out(told));
-    refused(answer).unwrap_or_else(|| entries::length_of(answer).to_string().into_bytes())
-}
-
-fn refused(answer: u64) -> Option<Vec<u8>> {
     match entries::refusal_of(answer) {
-        0 => None,
-        17 => Some(format!("! 17 at {}", entries::place_of(answer)).into_bytes()),
-        number => Some(format!("! {number}").into_bytes()),
+        0 => out[..entries::length_of(answer)].to_vec(),
+        17 => format!("! 17 at {}", entries::place_of(answer)).into_bytes(),
+        number => format!("! {number}").into_bytes(),
     }
 }
 
-/// What the archive is asked of an example.
-type Asked = fn(&Told, &[u8]) -> Vec<u8>;
-
 /// What is wrong with an example: its template, as the guide spells it, prints something else than expected.
-fn wrong(asked: Asked, told: &Told, template: &str, expected: &str) -> Option<String> {
-    let line = asked(told, &spelled(template.trim_end()));
+fn wrong(told: &Told, template: &str, expected: &str) -> Option<String> {
+    let line = answered(told, &spelled(template.trim_end()));
     (line != spelled(expected)).then(|| format!("prints {:?}", String::from_utf8_lossy(&line)))
 }
 
@@ -115,7 +101,7 @@ fn told_in_lines(block: &[&str]) -> Told {
 #[test]
 fn every_example_prints_what_the_guide_says() {
     let mut record = told("level=INFO message=hello");
-    let mut counts = [0; 3];
+    let mut counts = [0; 2];
     let mut found = Vec::new();
     let mut lines = GUIDE.lines().enumerate();
     while let Some((number, line)) = lines.next() {
@@ -124,21 +110,20 @@ fn every_example_prints_what_the_guide_says() {
             None => continue,
         };
         let block: Vec<&str> = lines.by_ref().map(|(_, line)| line).take_while(|line| *line != "```").collect();
-        let mut tried = |asked: Asked, record: &Told, at: usize, template: &str, expected: &str| {
-            let wrong = wrong(asked, record, template, expected);
+        let mut tried = |record: &Told, at: usize, template: &str, expected: &str| {
+            let wrong = wrong(record, template, expected);
             found.extend(wrong.map(|wrong| format!("docs/GUIDE.md, line {}: {wrong}", number + at + 2)));
         };
         match kind {
-            "lines" | "rooms" => {
-                let (asked, count): (Asked, _) = if kind == "lines" { (answered, 0) } else { (enough, 2) };
+            "lines" => {
                 for (at, line) in block.into_iter().enumerate() {
                     if let Some(said) = line.strip_prefix("# ") {
                         record = told(said);
                         continue;
                     }
                     let (template, expected) = line.split_once("=>  ").expect("TEMPLATE => LINE");
-                    tried(asked, &record, at, template, expected);
-                    counts[count] += 1;
+                    tried(&record, at, template, expected);
+                    counts[0] += 1;
                 }
             }
             "message" => record = told_in_lines(&block),
@@ -148,14 +133,14 @@ fn every_example_prints_what_the_guide_says() {
                 let at = usize::from(settings.is_some());
                 record.settings = settings.unwrap_or(0);
                 let template = block[at].strip_suffix("=>").expect("TEMPLATE =>");
-                tried(answered, &record, at, template, &block[at + 1..].join("\n"));
+                tried(&record, at, template, &block[at + 1..].join("\n"));
                 counts[1] += 1;
             }
             _ => {}
         }
     }
     assert!(found.is_empty(), "{}", found.join("\n"));
-    assert!(counts[0] > 50 && counts[1] > 4 && counts[2] > 4, "only {counts:?} examples were found");
+    assert!(counts[0] > 50 && counts[1] > 4, "only {counts:?} examples were found");
 }
 
 /// The lines of the guide's code in a language, without the space before them.
@@ -181,12 +166,6 @@ fn the_guides_rust_is_run() -> Result<(), Refusal> {
     let formatter = Formatter::new(FormatterConfig::custom("{c:8}|{s}").with_places())?;
     let record = Record::new(Level::Info, "0.412 mm").with_module_path("北壁::gauge");
     assert_eq!(formatter.format(&record)?, "北壁    |0.412 mm");
-    let config = FormatterConfig::custom("{t:>12} [{L}] {s}").with_settings(Settings::STRAIGHT_COLOUR);
-    let formatter = Formatter::new(config)?;
-    let bounds = Bounds::new().with_timestamp(12).with_message(80);
-    let mut out = vec![0; formatter.largest_room(&bounds)?];
-    let length = formatter.format_into(&record, &mut out)?; // for every record within the bounds
-    assert!(length <= formatter.room_for(&record)? && formatter.room_for(&record)? <= out.len());
 
     assert!(quoted("rust").len() > 6 && quoted("rust").iter().all(|line| include_str!("guide.rs").contains(line)));
     Ok(())

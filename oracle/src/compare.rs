@@ -3,14 +3,12 @@
 mod calls;
 pub(crate) mod case;
 mod found;
-mod full;
 mod heads;
 mod lent;
 mod listed;
 mod make;
 mod places;
 mod reports;
-mod rooms;
 mod ruled;
 
 use crate::judge;
@@ -77,11 +75,6 @@ pub fn run_reports(count: u64, seed: u64) -> bool {
     run_over(count, |index| make::report_case(seed, index))
 }
 
-/// The same over cases of chance whose lines use much of their room.
-pub fn run_rooms(count: u64, seed: u64) -> bool {
-    run_over(count, |index| make::room_case(seed, index))
-}
-
 fn run_over(count: u64, case: impl Fn(u64) -> (usize, Case) + Sync) -> bool {
     let mut found = Found::default();
     for batch in in_steps(0..count, BATCH) {
@@ -116,7 +109,7 @@ fn compare(case: &impl Fn(u64) -> (usize, Case), share: Range<u64>, colour: bool
         if !colour {
             found.count_kind(kind);
         }
-        found.count(seen);
+        found.count(&seen);
     }
     found
 }

@@ -1,11 +1,10 @@
-//! Document 01's examples, and letters, strict templates, heads, comparison reports, rooms and places as document 02 decides
-//! them (E3, E5, E7, E10, E13, E14), held against the crate. Expected values are typed from the documents; where the port
-//! parts from the crate, the crate's own answer stands here and says so.
+//! Document 01's examples, and letters, strict templates, heads, comparison reports and places as document 02 decides them
+//! (E3, E5, E7, E10, E14), held against the crate. Expected values are typed from the documents; where the port parts from the
+//! crate, the crate's own answer stands here and says so.
 
 pub(crate) mod heads;
 pub(crate) mod places;
 pub(crate) mod reports;
-mod rooms;
 
 use crate::judge::{self, Answer, Shown};
 use crate::ruling::{self, Names};
@@ -341,7 +340,6 @@ pub fn run() -> bool {
     checks.heads();
     checks.places();
     checks.reports();
-    checks.rooms();
     checks.sheet();
     checks.hosts();
     checks.limits();

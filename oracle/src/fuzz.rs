@@ -1,5 +1,5 @@
-//! The fuzzer's target: an input is compared as `oracle/compare` does, in every entry that it asks, the room's among them; a
-//! parting ends the process, and the fuzzer keeps the input.
+//! The fuzzer's target: an input is compared as `oracle/compare` does; a parting ends the process, and the fuzzer keeps
+//! the input.
 
 use crate::compare::case::{Case, Seen};
 use crate::inputs::{self, Input};

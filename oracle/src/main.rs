@@ -9,7 +9,7 @@ const USAGE: &str = "usage: pralakuon-oracle lines | segments | text | examples 
        pralakuon-oracle sample FILE [SEED]
        pralakuon-oracle meaning LIST CRATES FOLDER STEP
        pralakuon-oracle seeds LIST FOLDER
-       pralakuon-oracle compare [places | reports | rooms] N [SEED]            (built by oracle/compare)
+       pralakuon-oracle compare [places | reports] N [SEED]                    (built by oracle/compare)
        pralakuon-oracle compare paths | bytes | letters | strict | heads | wide   (built by oracle/compare)
        pralakuon-oracle speed              (built by oracle/speed)
        pralakuon-oracle sheet [--colour] [--straight] [--strict] [--heads] [--places] --template TEXT
@@ -65,7 +65,7 @@ fn usage() -> ExitCode {
 #[cfg(feature = "port")]
 fn compare(words: &[&str]) -> ExitCode {
     use pralakuon_oracle::compare::{
-        run, run_bytes, run_heads, run_letters, run_paths, run_places, run_reports, run_rooms, run_strict, run_wide,
+        run, run_bytes, run_heads, run_letters, run_paths, run_places, run_reports, run_strict, run_wide,
     };
     let alike = match words {
         ["paths"] => Some(run_paths()),
@@ -76,7 +76,6 @@ fn compare(words: &[&str]) -> ExitCode {
         ["wide"] => Some(run_wide()),
         ["places", numbers @ ..] => of_chance(run_places, numbers),
         ["reports", numbers @ ..] => of_chance(run_reports, numbers),
-        ["rooms", numbers @ ..] => of_chance(run_rooms, numbers),
         numbers => of_chance(run, numbers),
     };
     alike.map_or_else(usage, |alike| ExitCode::from(u8::from(!alike)))

@@ -1,17 +1,15 @@
-//! What document 01 rules, with document 02's letters (E3), strict templates (E5), heads (E7), comparison reports (E10), rooms
-//! (E13) and places (E14), decided a second time and without a look at the port: which number a template, a record or a sheet
-//! gets, in the documents' order, the line, and its room. Wherever the crate has an answer, it judges these rulings too.
+//! What document 01 rules, with document 02's letters (E3), strict templates (E5), heads (E7), comparison reports (E10) and
+//! places (E14), decided a second time and without a look at the port: which number a template, a record or a sheet gets, in
+//! the documents' order, and the line. Wherever the crate has an answer, it judges these rulings too.
 
 pub mod line;
 mod reader;
 pub mod report;
-mod room;
 mod unused;
 pub mod wide;
 
 pub use line::{line, line_with};
 pub use reader::{parse, Names, Reading};
-pub use room::{room, Room};
 pub use unused::{Lost, Unused};
 
 use crate::sheet::{Layout, Record, Sheet};

@@ -9,7 +9,6 @@ mod messages;
 mod places;
 pub(crate) mod random;
 mod reports;
-mod rooms;
 mod strict;
 
 use crate::head;

@@ -2,7 +2,6 @@
 
 mod growth;
 mod places;
-mod rooms;
 mod stack;
 mod texts;
 mod timing;
@@ -36,7 +35,6 @@ pub fn run() {
     reading();
     lines();
     places::run();
-    rooms::run();
     visible();
     texts::run();
     growth::run();

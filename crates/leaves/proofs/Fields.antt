@@ -5,9 +5,7 @@ use mathlib.Core.Bool.{Bool, true, false}
 use mathlib.Core.List.{List}
 use native.Mathlib.Omega.{arith}
 use lib.ListN.{length, get_or}
-use Rattle.buffer.proofs.Sameness.{both_true}
 use Rattle.buffer.specs.Table.{Maybe, none, some}
-use Rattle.segments.specs.Segments.{is_log}
 use Rattle.words.specs.declared.LogMetadata.{LogMetadata}
 use Rattle.words.specs.declared.LogMetadata.TheVariants.{CrateName, FileName, FilePath, LineNumber, Log, LogLevel, ModulePath, Timestamp, HeadSerial}
 use Rattle.colour.specs.declared.Settings.{Settings}
@@ -104,7 +102,15 @@ module _ (d n : List ℕ) (h : Lent d n) where
 
   laid_means : (m : LogMetadata) → is_laid n m ≡ true → has_comparison n ≡ true
   unfolding is_laid
-  laid_means m e = (both_true (is_log m) (has_comparison n) e).1
+  laid_means CrateName e = cc
+  laid_means (FileName k) e = cc
+  laid_means FilePath e = cc
+  laid_means LineNumber e = cc
+  laid_means Log e = e
+  laid_means LogLevel e = cc
+  laid_means ModulePath e = cc
+  laid_means Timestamp e = cc
+  laid_means HeadSerial e = cc
 
   -- ---- what a specifier shows
 

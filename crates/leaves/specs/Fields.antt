@@ -1,11 +1,10 @@
 -- Scaffolding, for proofs alone: what a specifier shows before it is formatted, as the code goes about it. Assumes nothing.
-use Rattle.std.specs.Prelude.{ℕ, Bool, true, false, ◌&&◌, List}
+use Rattle.std.specs.Prelude.{ℕ, Bool, true, false, List}
 use Rattle.buffer.specs.Table.{Maybe, none, some}
 use Rattle.words.specs.declared.LogMetadata.{LogMetadata}
 use Rattle.words.specs.declared.LogMetadata.TheVariants.{CrateName, FileName, FilePath, LineNumber, Log, LogLevel, ModulePath, Timestamp, HeadSerial}
 use Rattle.colour.specs.declared.Settings.{Settings}
 use Rattle.colour.specs.Shown.{joined}
-use Rattle.segments.specs.Segments.{is_log}
 use Rattle.record.specs.Records.{Record}
 use Rattle.comparisons.specs.Comparisons.{Comparison, layout}
 use Rattle.fields.specs.Texts.{wording}
@@ -36,4 +35,12 @@ field_text s r HeadSerial = wording r HeadSerial
 
 -- whether the specifier m shows what the numbers tell a comparison
 unfoldable pub is_laid : List ℕ → LogMetadata → Bool
-is_laid n m = is_log m && has_comparison n
+is_laid n CrateName = false
+is_laid n (FileName k) = false
+is_laid n FilePath = false
+is_laid n LineNumber = false
+is_laid n Log = has_comparison n
+is_laid n LogLevel = false
+is_laid n ModulePath = false
+is_laid n Timestamp = false
+is_laid n HeadSerial = false

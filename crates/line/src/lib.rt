@@ -49,7 +49,7 @@ pub fn write_line(
 
 // Writes the text of the segment at i before it is formatted, and returns the place after it. The depth falls from a group to its members, as
 // it does where they are measured.
-#[cycle(put_join_put_raw_put_seg)]
+#[cycle(putting)]
 fn put_raw(
     cells: &[usize],
     links: &[u8],
@@ -91,7 +91,7 @@ fn put_raw(
 }
 
 // Writes the members back from the link `l`, in a loop as they were measured.
-#[cycle(put_join_put_raw_put_seg)]
+#[cycle(putting)]
 fn put_join(
     cells: &[usize],
     links: &[u8],
@@ -122,7 +122,7 @@ fn put_join(
 }
 
 // Writes the segment at i, formatted: with a prefix its text is written first, where it must end, and then dressed in place.
-#[cycle(put_join_put_raw_put_seg)]
+#[cycle(putting)]
 fn put_seg(
     cells: &[usize],
     links: &[u8],

@@ -10,7 +10,7 @@ use segments::{Kind, Wanted};
 use words::LogMetadata;
 
 // Whether the members back from the link `l` name it. Links lead down, so that the search ends in any pool.
-#[cycle(named_at_names)]
+#[cycle(named)]
 pub fn names(cells: &[usize], wanted: Wanted, l: usize) -> bool
     requires { (512 ≤ length cells.now) × (l ≤ 64) }
     ensures { result ≡ named_among (is_wanted wanted) (chain_at cells.now l) }
@@ -25,7 +25,7 @@ pub fn names(cells: &[usize], wanted: Wanted, l: usize) -> bool
     false
 }
 
-#[cycle(named_at_names)]
+#[cycle(named)]
 fn named_at(cells: &[usize], wanted: Wanted, i: usize) -> bool
     requires { (512 ≤ length cells.now) × (i < 64) }
     ensures { result ≡ named_in (is_wanted wanted) (segment_at cells.now i) }

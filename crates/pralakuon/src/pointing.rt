@@ -1,28 +1,19 @@
 // A place of a sheet's template, shown to a person: what is wrong there, the line of the template that holds the place, and a caret below it.
 use super::say;
-use buffer::put;
 use caret::{put_caret, put_line};
 use sheet::{body_count, body_length};
 
 // Says that the template of the sheet d drops bytes or loses a parameter, first at its place p, and shows the place.
-pub(crate) fn point_at(d: &[u8], p: usize) {
-    say_place(p);
-    show_place(template_of(d), p);
+pub(crate) fn point_at(err: &impl Print, d: &[u8], p: usize) {
+    say_place(err, p);
+    show_place(err, template_of(d), p);
 }
 
 // What is wrong, and where. Each line is one write: the words of another program could come between pieces.
-fn say_place(p: usize) {
-    let mut digits = [0u8; 20];
-    let n = io::decimal(p as u64, &mut digits);
-    let mut line = [0u8; 128];
-    let i = put(
-        &mut line,
-        0,
-        b"the sheet is refused, 17: its template drops bytes or loses a parameter, first at byte ",
+fn say_place(err: &impl Print, p: usize) {
+    let _ = println!(err;
+        "the sheet is refused, 17: its template drops bytes or loses a parameter, first at byte {p}:"
     );
-    let j = put(&mut line, i, &digits[..n]);
-    let k = put(&mut line, j, b":\n");
-    say(&line[..k]);
 }
 
 // The template of the sheet d: what follows the settings byte in body 0. The sheet was opened, so that no test here fails; one that did would give no bytes.
@@ -43,7 +34,7 @@ fn template_of(d: &[u8]) -> &[u8] {
 }
 
 // The line of the template t that holds the place p, and the caret. Nothing is left out: what is refused with 17 has 1,024 bytes at most, the place among them.
-fn show_place(t: &[u8], p: usize) {
+fn show_place(err: &impl Print, t: &[u8], p: usize) {
     if 1024 < t.len() {
         return;
     }
@@ -52,7 +43,7 @@ fn show_place(t: &[u8], p: usize) {
     }
     let mut line = [0u8; 1025];
     let n = put_line(t, p, &mut line);
-    say(&line[..n]);
+    say(err, &line[..n]);
     let k = put_caret(t, p, &mut line);
-    say(&line[..k]);
+    say(err, &line[..k]);
 }

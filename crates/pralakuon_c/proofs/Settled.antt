@@ -11,9 +11,6 @@ line_settled _ _ _ _ _ _ p q = (same p.returned q.returned, past (past (past (he
 session_settled : Settled 2 entries.pralakuon_session.Kinds.ps entries.pralakuon_session.Kinds.r entries.pralakuon_session.Reads.Post
 session_settled _ _ _ _ _ _ p q = (same p.returned q.returned, past (here (same p.buffer q.buffer)))
 
-room_settled : Settled 2 entries.pralakuon_room.Kinds.ps entries.pralakuon_room.Kinds.r entries.pralakuon_room.Reads.Post
-room_settled _ _ _ _ _ _ p q = (same p q, refl)
-
 check_settled : Settled 1 entries.pralakuon_check.Kinds.ps entries.pralakuon_check.Kinds.r entries.pralakuon_check.Reads.Post
 check_settled _ _ _ _ _ _ p q = (same p q, refl)
 

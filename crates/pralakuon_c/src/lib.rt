@@ -3,7 +3,6 @@
 
 ghost use Rattle.std.specs.Prelude.{◌≡◌, ◌*◌, length};
 ghost use Rattle.answer.specs.Answers.{in_room, Meets, line_entry};
-ghost use Rattle.rooms.specs.Calls.{room_entry};
 ghost use Rattle.checking.specs.Templates.{check_entry, timestamp_entry};
 ghost use Rattle.outcomes.specs.Program.{session_entry};
 ghost use Rattle.builtin.specs.Choices.{chosen};
@@ -13,16 +12,15 @@ ghost use Rattle.pralakuon_c.specs.Version.{version};
 use builtin::put_chosen;
 use checking::{check_template, names_timestamp};
 use packing::{answer_in, pack};
-use rooms::room;
 use session::session;
 use visible::visible_text;
 
 // The same three numbers stand in include/pralakuon.h and in host/Cargo.toml.
 const MAJOR: u64 = 0;
 
-const MINOR: u64 = 7;
+const MINOR: u64 = 6;
 
-const PATCH: u64 = 0;
+const PATCH: u64 = 1;
 
 // The line of the record d by the template t.
 #[unsafe(no_mangle)]
@@ -38,14 +36,6 @@ pub extern "C" fn pralakuon_session(d: &[u8], out: &mut [u8]) -> u64
     ensures { Meets (session_entry d.now out.old) out.old out.new result }
 {
     pack(session(d, out))
-}
-
-// How much buffer is enough for the line of the record d by the template t.
-#[unsafe(no_mangle)]
-pub extern "C" fn pralakuon_room(t: &[u8], settings: u8, d: &[u8]) -> u64
-    ensures { result ≡ room_entry t.now settings d.now }
-{
-    pack(room(t, settings, d))
 }
 
 // Whether the template t is read, in the edition that the settings ask for.

@@ -1,5 +1,5 @@
 -- Contents and braces, one law for each case. Assumes nothing.
-use Prim.Native.Nat.{ℕ, zero, suc, ◌+◌, ◌-◌, ◌*◌, ◌≤◌, ◌<◌}
+use Prim.Native.Nat.{ℕ, zero, suc, ◌+◌, ◌-◌, ◌≤◌}
 use mathlib.Core.Path.{◌≡◌, refl, sym, ap, subst, ◌∙◌}
 use mathlib.Core.Bool.{Bool, true, false, not}
 use mathlib.Core.List.{List}
@@ -7,10 +7,9 @@ use native.Mathlib.Omega.{arith}
 use lib.ListN.{length}
 use Rattle.refusals.specs.declared.Refusal.{Refusal}
 use Rattle.runs.specs.Runs.{stands}
-use Rattle.words.specs.Trying.{Tried, fit, misfit, refused, ◌or_else◌, ◌then◌, further, listed}
+use Rattle.words.specs.Trying.{Tried, fit, refused, ◌then◌, further, listed}
 use Rattle.words.proofs.Attempts.{then_fit, then_misfit, then_refused, listed_fit, listed_misfit, listed_refused}
 use Rattle.segments.specs.Sizes.{Narrow}
-use Rattle.segments.specs.Pool.{Sound}
 use Rattle.parts.specs.declared.Parts.{Parts}
 use Rattle.parts.specs.Parts.{no_parts}
 use Rattle.braces.specs.declared.Closing.{Closing}
@@ -19,7 +18,7 @@ use Rattle.building.specs.declared.Inner.{Inner}
 use Rattle.building.specs.declared.Items.{Items}
 use Rattle.building.specs.declared.ItemRead.{ItemRead}
 use Rattle.braces.specs.Braces.{closing}
-use Rattle.building.specs.Reading.{Made, Reader, Taken, nothing, Content, no_content, item_at, separator, content_at, group_at, brace_to, brace_at, inside_at}
+use Rattle.building.specs.Reading.{Made, Reader, nothing, Content, no_content, item_at, separator, content_at, group_at, brace_to, brace_at, inside_at}
 use Rattle.building.specs.Told.{last_made, tell, tell_inner, tell_items, tell_item, built_of, Room, Keeps, InnerKeeps, InnerMade, ItemsKeep}
 use Rattle.building.proofs.Answers.{reading_fit, reading_misfit, reading_refused, item_fit, item_misfit, item_refused}
 use Rattle.building.proofs.Bounds.{keeps_misfit}

@@ -17,7 +17,7 @@ use refusals::Refusal;
 use segments::Kind;
 
 // A brace at `from`.
-#[cycle(further_items_parse_argument_parse_item_parse_log_segment_parse_nested_parse_piece)]
+#[cycle(reading)]
 pub fn parse_argument(
     t: &[u8],
     from: usize,
@@ -51,7 +51,7 @@ pub fn parse_argument(
 }
 
 // The content of a brace: items with separators between them.
-#[cycle(further_items_parse_argument_parse_item_parse_log_segment_parse_nested_parse_piece)]
+#[cycle(reading)]
 fn parse_log_segment(
     t: &[u8],
     from: usize,
@@ -89,7 +89,7 @@ pub fn separator_of(even: bool) -> u8
 }
 
 // The items after the first, and what they all add up to.
-#[cycle(further_items_parse_argument_parse_item_parse_log_segment_parse_nested_parse_piece)]
+#[cycle(reading)]
 fn further_items(
     t: &[u8],
     from: usize,
@@ -123,7 +123,7 @@ fn further_items(
 }
 
 // One item: words, else a group.
-#[cycle(further_items_parse_argument_parse_item_parse_log_segment_parse_nested_parse_piece)]
+#[cycle(reading)]
 fn parse_item(
     t: &[u8],
     from: usize,
@@ -156,7 +156,7 @@ fn parse_item(
 }
 
 // A group: pieces as long as they fit.
-#[cycle(further_items_parse_argument_parse_item_parse_log_segment_parse_nested_parse_piece)]
+#[cycle(reading)]
 fn parse_nested(
     t: &[u8],
     from: usize,
@@ -205,7 +205,7 @@ fn is_specifier_at(cells: &[usize], i: usize) -> bool
 }
 
 // One piece of a group: a brace, else text or a parameter.
-#[cycle(further_items_parse_argument_parse_item_parse_log_segment_parse_nested_parse_piece)]
+#[cycle(reading)]
 fn parse_piece(
     t: &[u8],
     from: usize,

@@ -6,10 +6,10 @@ ghost use Rattle.buffer.specs.Bytes.{same};
 ghost use Rattle.outcomes.specs.Program.{session_outcome};
 ghost use Rattle.replay.specs.Cases.{lent_room, said_lines, said_refusal, said_outcome, judged, tally_with};
 
-use libc::{STDIN_FILENO, STDOUT_FILENO};
 use outcomes::refusing::put_refusal;
 use packing::Answer;
 use refusals::{Refusal, number_of};
+use std::io::Read;
 
 // What became of a case.
 #[derive(Clone, Copy)]
@@ -27,15 +27,16 @@ struct Tally {
     skipped: u32,
 }
 
-fn main() {
-    if skip_header() {
-        run_list();
+fn main(rt: HostRuntime) {
+    let mut input = rt.stdin();
+    if skip_header(&mut input) {
+        run_list(&rt, &mut input);
     } else {
-        io::write_all(STDOUT_FILENO, b"no list\n");
+        let _ = println!(rt; "no list");
     }
 }
 
-fn run_list() {
+fn run_list(rt: &impl Print, input: &mut impl Read) {
     let mut t = Tally {
         run: 0,
         parted: 0,
@@ -44,22 +45,21 @@ fn run_list() {
     // a loop has to end: more turns than any list has cases
     let mut turns: u32 = 0;
     while turns < 1000000 {
-        let v = next_case();
+        let v = next_case(input);
         if is_end(v) {
             break;
         }
         t = tallied(t, v);
         turns += 1;
     }
-    say(b"run ", t.run);
-    say(b"parted ", t.parted);
-    say(b"skipped ", t.skipped);
+    say(rt, "run", t.run);
+    say(rt, "parted", t.parted);
+    say(rt, "skipped", t.skipped);
 }
 
-fn say(word: &[u8], n: u32) {
-    io::write_all(STDOUT_FILENO, word);
-    io::print_decimal(STDOUT_FILENO, n as u64);
-    io::write_all(STDOUT_FILENO, b"\n");
+// What the output doesn't take is lost: there is nowhere else to say it.
+fn say(rt: &impl Print, word: &str, n: u32) {
+    let _ = println!(rt; "{word} {n}");
 }
 
 fn is_end(v: Verdict) -> bool {
@@ -96,12 +96,12 @@ fn tallied(t: Tally, v: Verdict) -> Tally
 }
 
 // Reads up to the first empty line, and answers whether there was one.
-fn skip_header() -> bool {
+fn skip_header(input: &mut impl Read) -> bool {
     let mut last: u8 = 0;
     let mut left: u32 = 65536;
     while 0 < left {
         left -= 1;
-        let b = read_byte();
+        let b = read_byte(input);
         if b == 10 && last == 10 {
             return true;
         }
@@ -111,17 +111,24 @@ fn skip_header() -> bool {
 }
 
 // 0 where the input ends.
-fn read_byte() -> u8 {
+fn read_byte(input: &mut impl Read) -> u8 {
     let mut one = [0u8; 1];
-    io::read_full(STDIN_FILENO, &mut one);
-    one[0]
+    match input.read_exact(&mut one) {
+        Ok(()) => one[0],
+        Err(_) => 0,
+    }
 }
 
-// A length: four bytes, little-endian. 0 where the input ends.
-fn read_length() -> usize {
+// A length: four bytes, little-endian. 0 where the input ends before them.
+fn read_length(input: &mut impl Read) -> usize {
     let mut four = [0u8; 4];
-    io::read_full(STDIN_FILENO, &mut four);
-    wide(four[0]) + 256 * wide(four[1]) + 65536 * wide(four[2]) + 16777216 * wide(four[3])
+    match input.read_exact(&mut four) {
+        Ok(()) => wide(four[0])
+            + 256 * wide(four[1])
+            + 65536 * wide(four[2])
+            + 16777216 * wide(four[3]),
+        Err(_) => 0,
+    }
 }
 
 fn wide(b: u8) -> usize
@@ -131,31 +138,30 @@ fn wide(b: u8) -> usize
 }
 
 // One case of the list.
-fn next_case() -> Verdict {
-    let n = read_byte();
+fn next_case(input: &mut impl Read) -> Verdict {
+    let n = read_byte(input);
     let mut sheet = [0u8; 65537];
-    let size = read_into(&mut sheet);
+    let size = read_into(input, &mut sheet);
     if size == 0 {
         return Verdict::NoCase;
     }
     let mut output = [0u8; 65537];
-    let length = read_into(&mut output);
+    let length = read_into(input, &mut output);
     judge(n, &sheet[..size], &output[..length])
 }
 
 // A length and as many bytes. 0 where the input ends before them, or they are too many.
-fn read_into(buf: &mut [u8]) -> usize
+fn read_into(input: &mut impl Read, buf: &mut [u8]) -> usize
     ensures { result ≤ length buf.new }
 {
-    let size = read_length();
+    let size = read_length(input);
     if buf.len() < size {
         return 0;
     }
-    let got = io::read_full(STDIN_FILENO, &mut buf[..size]);
-    if got == size {
-        return size;
+    match input.read_exact(&mut buf[..size]) {
+        Ok(()) => size,
+        Err(_) => 0,
     }
-    0
 }
 
 // The verdict on a case. N 255 is a listed difference.

@@ -16,6 +16,7 @@ use Rattle.measure.specs.declared.Measure.{Measure}
 use Rattle.measure.specs.Measures.{nothing, grown, inserted_in, padding_in}
 use Rattle.measure.proofs.Walked.{inserted_measured, padding_measured}
 use Rattle.segments.specs.Segments.{LogSegment}
+use Rattle.segments.specs.Pool.{segment_at}
 use Rattle.record.specs.declared.Level.{Level}
 use Rattle.record.specs.Records.{Record}
 use Rattle.record.specs.Placed.{laid_by}
@@ -23,10 +24,10 @@ use Rattle.record.specs.Contents.{record_of}
 use Rattle.rows.specs.declared.Row.{Row}
 use Rattle.dress.specs.declared.Frame.{Frame}
 use Rattle.dress.proofs.Framing.{empty, opening, Framed}
-use Rattle.leaves.specs.Places.{places_of, has_comparison, record_by, source_by, level_by, Lent}
+use Rattle.leaves.specs.Places.{places_of, has_comparison, record_by, source_by, level_by, Lent, Readable}
 use Rattle.leaves.proofs.Fields.{there_told}
 use Rattle.rows.specs.Texts.{segment_text, raw_text, is_host, bare_message, bare_by, is_bare, format_of}
-use Rattle.rows.specs.Rows.{bare_row, row_in, row_of, frame_by, is_empty}
+use Rattle.rows.specs.Rows.{row_at, bare_row, row_in, row_of, frame_by, is_empty, Tabled}
 use Rattle.buffer.proofs.Sameness.{both_true}
 use Rattle.rows.proofs.Segments.{segment_bare, segment_formatted}
 
@@ -179,6 +180,12 @@ module _ (s : Settings) (t d numbers : List ℕ) (lent : Lent d numbers) where
       let f = format_of (level_by numbers) x in
       let y = raw_text s t (record_by numbers d) x in
       omega (arith, ap length (formatted_text x e), length_laid (opening s f) f (padded s f y) y)
+
+-- the frame around the segment at i, by its row of the table
+pub framed_at : (s : Settings) (t d numbers cells table : List ℕ) (i : ℕ) → Readable cells d numbers (i + 1) → Tabled s t (record_by numbers d) cells table (i + 1)
+    → (w : Frame) → is_bare (bare_by numbers) (segment_at cells i) ≡ false → w ≡ frame_by (format_of (level_by numbers) (segment_at cells i)) (row_at table i)
+    → Framed s w (raw_text s t (record_by numbers d) (segment_at cells i)) (segment_text s t (record_by numbers d) (segment_at cells i))
+framed_at s t d numbers cells table i o r w q e = framed_by s t d numbers o.lent (segment_at cells i) w (row_at table i) q (r.row i (omega arith)) e
 
 module _ (s : Settings) (w : Frame) (x y : List ℕ) (h : Framed s w x y) where
   -- an empty frame leaves the text as it is

@@ -1,11 +1,12 @@
 -- Scaffolding, for proofs alone: A segment of a template before and after it is formatted, as the code goes about it. Assumes nothing.
-use Rattle.std.specs.Prelude.{ℕ, Bool, true, false, ◌&&◌, ◌||◌, List}
+use Rattle.std.specs.Prelude.{ℕ, Bool, true, false, ◌||◌, List}
 use Rattle.buffer.specs.Bytes.{part}
 use Rattle.words.specs.declared.LogMetadata.{LogMetadata}
+use Rattle.words.specs.declared.LogMetadata.TheVariants.{CrateName, FileName, FilePath, LineNumber, Log, LogLevel, ModulePath, Timestamp, HeadSerial}
 use Rattle.colour.specs.declared.Settings.{Settings}
 use Rattle.colour.specs.declared.Format.{Format}
 use Rattle.colour.specs.Shown.{text_of, joined}
-use Rattle.segments.specs.Segments.{LogSegment, LogSegments, text, specifier, group, is_log}
+use Rattle.segments.specs.Segments.{LogSegment, LogSegments, text, specifier, group}
 use Rattle.parts.specs.Parts.{unformatted}
 use Rattle.record.specs.declared.Source.{Source}
 use Rattle.record.specs.declared.Level.{Level}
@@ -52,7 +53,15 @@ bare_by n = is_host (source_by n) || has_comparison n
 
 -- where messages are bare or not
 unfoldable pub bare_from : Bool → LogMetadata → Bool
-bare_from b m = is_log m && b
+bare_from b CrateName = false
+bare_from b (FileName n) = false
+bare_from b FilePath = false
+bare_from b LineNumber = false
+bare_from b Log = b
+bare_from b LogLevel = false
+bare_from b ModulePath = false
+bare_from b Timestamp = false
+bare_from b HeadSerial = false
 
 -- a segment that is never formatted: a text, or such a message
 unfoldable pub is_bare : Bool → LogSegment → Bool

@@ -38,7 +38,7 @@ pub struct Row {
 
 // The text of the segment at i on top of a measure, before it is formatted. Groups stand `depth` deep there at most, and a group's members are
 // gone into with one less: the three functions call each other in a cycle that ends because the depth falls.
-#[cycle(join_of_raw_of_seg_of)]
+#[cycle(measuring)]
 fn raw_of(
     cells: &[usize],
     links: &[u8],
@@ -78,7 +78,7 @@ fn raw_of(
 }
 
 // The members back from the link `l`, one after the other in a loop: so the stack grows with groups inside groups, and not with members.
-#[cycle(join_of_raw_of_seg_of)]
+#[cycle(measuring)]
 fn join_of(
     cells: &[usize],
     links: &[u8],
@@ -108,7 +108,7 @@ fn join_of(
 }
 
 // The segment at i, formatted.
-#[cycle(join_of_raw_of_seg_of)]
+#[cycle(measuring)]
 fn seg_of(
     cells: &[usize],
     links: &[u8],

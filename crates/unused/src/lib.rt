@@ -77,7 +77,7 @@ fn left_by(c: Look, to: usize) -> usize
 }
 
 // A brace at `from`.
-#[cycle(look_brace_look_content_look_group_look_item_look_piece)]
+#[cycle(looking)]
 fn look_brace(t: &[u8], from: usize, to: usize, left: usize, even: bool) -> Piece
     requires { (from ≤ to) × (to ≤ length t.now) × (to ≤ 1024) }
     ensures result_value { tell_piece_look result ≡ look_brace_in left even t.now from to }
@@ -98,7 +98,7 @@ fn look_brace(t: &[u8], from: usize, to: usize, left: usize, even: bool) -> Piec
 }
 
 // The content of a brace: items with separators between them.
-#[cycle(look_brace_look_content_look_group_look_item_look_piece)]
+#[cycle(looking)]
 fn look_content(t: &[u8], from: usize, to: usize, left: usize, even: bool) -> Seen
     requires { (from ≤ to) × (to ≤ length t.now) × (to ≤ 1024) }
     ensures { fit (place_told result.unused) result.end ≡ look_inside left even t.now from to }
@@ -128,7 +128,7 @@ fn look_content(t: &[u8], from: usize, to: usize, left: usize, even: bool) -> Se
 }
 
 // One item: words, a parameter, else a group.
-#[cycle(look_brace_look_content_look_group_look_item_look_piece)]
+#[cycle(looking)]
 fn look_item(t: &[u8], from: usize, to: usize, left: usize, even: bool, c: Look) -> Look
     requires { (from ≤ to) × (to ≤ length t.now) × (to ≤ 1024) }
     ensures end_value { fit (tell_look result) result.end ≡ look_item even t.now (look_group_in left (not even) t.now) to from (tell_look c) }
@@ -180,7 +180,7 @@ fn with_word(c: Look, j: usize, even: bool) -> Look
 }
 
 // A group: pieces as long as they fit.
-#[cycle(look_brace_look_content_look_group_look_item_look_piece)]
+#[cycle(looking)]
 fn look_group(t: &[u8], from: usize, to: usize, left: usize, even: bool) -> Seen
     requires { (from ≤ to) × (to ≤ length t.now) × (to ≤ 1024) }
     ensures end_value { fit (place_told result.unused) result.end ≡ look_group_in left even t.now from to }
@@ -202,7 +202,7 @@ fn look_group(t: &[u8], from: usize, to: usize, left: usize, even: bool) -> Seen
 }
 
 // One piece of a group: a brace, else text or a parameter.
-#[cycle(look_brace_look_content_look_group_look_item_look_piece)]
+#[cycle(looking)]
 fn look_piece(t: &[u8], from: usize, to: usize, left: usize, even: bool, u: usize) -> Piece
     requires { (from ≤ to) × (to ≤ length t.now) × (to ≤ 1024) }
     ensures result_value { tell_piece_look result ≡ look_piece t.now (look_brace_in left even t.now) to from (place_told u) }

@@ -195,43 +195,6 @@ static void heads(void)
     CHECK(line_of("{s}", PRALAKUON_HEADS, &record, out) == PRALAKUON_FIELD_TOO_LONG);
 }
 
-/* The room that is told for a record by a template. */
-static uint64_t room_of(const char *template_, uint8_t settings, const struct pralakuon_record *record)
-{
-    static uint8_t laid_out[PRALAKUON_RECORD_ROOM];
-    size_t size = pralakuon_record_put(record, settings, laid_out, sizeof laid_out);
-
-    return pralakuon_room((const uint8_t *)template_, strlen(template_), settings, laid_out, size);
-}
-
-/* The two numbers of the header are what a segment and a report add, and nothing else is added; refusals are a line's. */
-static void rooms(void)
-{
-    static const char template_[] = "{[{L}]%bold%<9}|{s}", report[] = "\n left: ``\nright: ``";
-    static uint8_t out[PRALAKUON_RECORD_ROOM];
-    struct pralakuon_record record;
-
-    memset(&record, 0, sizeof record);
-    record.level = PRALAKUON_LEVEL_ERROR;
-    record.message = pralakuon_text_of("hello");
-    CHECK(room_of(template_, PRALAKUON_PLAIN, &record) == 27 * 256);
-    CHECK(room_of(template_, PRALAKUON_COLOUR, &record) == (27 + 6 * PRALAKUON_ROOM_PER_SEGMENT) * 256);
-    CHECK(room_of("{s}", PRALAKUON_HEADS, &record) == 5 * 256);
-    CHECK(line_of("{s}", PRALAKUON_PLAIN, &record, out) == room_of("{s}", PRALAKUON_PLAIN, &record));
-    record.message = pralakuon_text_of(report);
-    CHECK(room_of("{s:9}", PRALAKUON_PLAIN, &record) == (strlen(report) + 9 + PRALAKUON_ROOM_PER_REPORT) * 256);
-    record.level = PRALAKUON_LEVEL_NONE;
-    CHECK(room_of("{s:9}", PRALAKUON_COLOUR, &record) == (strlen(report) + 6 + PRALAKUON_ROOM_PER_REPORT) * 256);
-    record.source = PRALAKUON_SOURCE_HOST;
-    CHECK(room_of("{s:9}", PRALAKUON_PLAIN, &record) == PRALAKUON_NOT_A_RECORD);
-    record.level = PRALAKUON_LEVEL_INFO;
-    CHECK(room_of("{s:9}", PRALAKUON_PLAIN, &record) == strlen(report) * 256);
-    CHECK(room_of("{s} %{t}", PRALAKUON_STRICT, &record) == 4 * 256 + PRALAKUON_DROPPED);
-    CHECK(room_of("{t}", PRALAKUON_PLAIN, &record) == PRALAKUON_NO_MESSAGE);
-    CHECK(room_of("{t}", 2 * PRALAKUON_PLACES, &record) == PRALAKUON_NOT_A_SHEET);
-    CHECK(pralakuon_room(NULL, 0, PRALAKUON_PLAIN, NULL, 0) == PRALAKUON_NOT_A_SHEET);
-}
-
 static uint64_t timestamp_by(const char *template_, uint8_t settings)
 {
     return pralakuon_timestamp((const uint8_t *)template_, strlen(template_), settings);
@@ -358,7 +321,6 @@ int main(void)
     settings();
     places();
     heads();
-    rooms();
     strict();
     sessions();
     visible();

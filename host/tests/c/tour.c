@@ -88,38 +88,6 @@ static void show_line(const char *template_, uint8_t settings, const struct pral
         printf("refused, %u: %s, memory is %s\n", refusal, pralakuon_refusal_text(refusal), as_found(out, sizeof out));
 }
 
-/* How much room is enough for the line of a record, before it is made. */
-static void show_room(const char *template_, uint8_t settings, const struct pralakuon_record *record)
-{
-    static uint8_t laid_out[PRALAKUON_RECORD_ROOM];
-    size_t size = pralakuon_record_put(record, settings, laid_out, sizeof laid_out);
-    uint64_t answer = pralakuon_room((const uint8_t *)template_, strlen(template_), settings, laid_out, size);
-    unsigned refusal = pralakuon_refusal_of(answer);
-    size_t room = (size_t)pralakuon_length_of(answer);
-
-    if (refusal == 0)
-        printf("%s by %s: room %zu is enough\n", pralakuon_level_name(record->level), template_, room);
-    else
-        printf("%s is refused, %u: %s\n", template_, refusal, pralakuon_refusal_text(refusal));
-}
-
-/* One buffer for every line by "[{L}] {s}" in colour whose message has at most 80 bytes: for each of the four parts of the
- * template the most that can come of it. */
-static uint8_t one_buffer[1 + (5 + 5) + 2 + (80 + PRALAKUON_ROOM_PER_REPORT) + 4 * PRALAKUON_ROOM_PER_SEGMENT];
-
-static void show_in_one_buffer(const struct pralakuon_record *record)
-{
-    static uint8_t laid_out[PRALAKUON_RECORD_ROOM];
-    const uint8_t settings = PRALAKUON_COLOUR | PRALAKUON_STRAIGHT;
-    const char *template_ = "[{L}] {s}";
-    size_t size = pralakuon_record_put(record, settings, laid_out, sizeof laid_out);
-    uint64_t answer = pralakuon_line((const uint8_t *)template_, strlen(template_), settings, laid_out, size, one_buffer,
-                                     sizeof one_buffer);
-
-    if (pralakuon_refusal_of(answer) == 0)
-        printf("one buffer of %zu bytes: a line of %zu\n", sizeof one_buffer, (size_t)pralakuon_length_of(answer));
-}
-
 static void show_visible(const char *text)
 {
     char out[80];
@@ -201,14 +169,6 @@ int main(void)
     show_line("{s:9}|", PRALAKUON_PLAIN, &named, 14);
     show_line("{s:9}|", PRALAKUON_PLACES, &named, 14); /* its five characters take seven places */
     show_line("[{L}] {s}", PRALAKUON_PLAIN, &failed, 57);
-    show_room("[{L}] {s}", PRALAKUON_PLAIN, &records[0]);
-    show_room("[{L}] {s}", PRALAKUON_COLOUR, &records[0]);
-    show_room("[{L}] {s}", PRALAKUON_COLOUR, &records[1]); /* a print: its message alone */
-    show_room("[{L}] {s}", PRALAKUON_COLOUR, &failed);
-    show_room("{t}", PRALAKUON_COLOUR, &records[0]);
-    show_in_one_buffer(&records[0]);
-    show_in_one_buffer(&records[1]);
-    show_in_one_buffer(&failed);
     show_visible("\033[1m[\033[31mERROR\033[0m\033[1m]  \033[0m|hello");
     show_sheet(records, 3, 512);
     show_sheet(records, 3, 81);

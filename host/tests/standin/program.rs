@@ -25,7 +25,6 @@ macro_rules! entry {
 }
 
 entry!(pralakuon_line, *const u8, usize, u8, *const u8, usize, *mut u8, usize);
-entry!(pralakuon_room, *const u8, usize, u8, *const u8, usize);
 entry!(pralakuon_session, *const u8, usize, *mut u8, usize);
 entry!(pralakuon_check, *const u8, usize, u8);
 entry!(pralakuon_timestamp, *const u8, usize, u8);
@@ -69,7 +68,6 @@ fn answers(made: &Made, sheet: &Sheet) -> Vec<(&'static str, Refusal)> {
         ("check", check(b"{s}", Settings::PLAIN).unwrap_err()),
         ("names_timestamp", names_timestamp(b"{s}", Settings::PLAIN).unwrap_err()),
         ("line", line(b"{s}", Settings::PLAIN, &device, &mut out).unwrap_err()),
-        ("room_for", room_for(b"{s}", Settings::PLAIN, &device).unwrap_err()),
         ("session", session(&made.bytes).unwrap_err()),
         ("session_into", session_into(&made.bytes, &mut out).unwrap_err()),
         ("Sheet::read", Sheet::read(&made.bytes).unwrap_err()),
@@ -81,16 +79,12 @@ fn answers(made: &Made, sheet: &Sheet) -> Vec<(&'static str, Refusal)> {
         ("Formatter::new, built in", Formatter::new(FormatterConfig::default()).unwrap_err()),
         ("Formatter::format", made.formatter.format(&device).unwrap_err()),
         ("Formatter::format_into", made.formatter.format_into(&device, &mut out).unwrap_err()),
-        ("Formatter::room_for", made.formatter.room_for(&device).unwrap_err()),
-        ("Formatter::largest_room", made.formatter.largest_room(&Bounds::new()).unwrap_err()),
         ("Formatter::append", made.formatter.append(&device, &mut text).unwrap_err()),
         ("Formatter::write_line", inside(made.formatter.write_line(&device, &mut bytes).unwrap_err())),
         ("HostFormatter::new", HostFormatter::new(FormatterConfig::custom("{s}")).unwrap_err()),
         ("HostFormatter::new, built in", HostFormatter::new(FormatterConfig::default()).unwrap_err()),
         ("HostFormatter::format", made.host.format(&host).unwrap_err()),
         ("HostFormatter::format_into", made.host.format_into(&host, &mut out).unwrap_err()),
-        ("HostFormatter::room_for", made.host.room_for(&host).unwrap_err()),
-        ("HostFormatter::largest_room", made.host.largest_room(&Bounds::new()).unwrap_err()),
         ("HostFormatter::append", made.host.append(&host, &mut text).unwrap_err()),
         ("HostFormatter::write_line", inside(made.host.write_line(&host, &mut bytes).unwrap_err())),
     ]

@@ -53,30 +53,23 @@ fn packed(number: u8, value: usize) -> u64 {
 type Held = Result<(), String>;
 
 pub fn line(template: &[u8], settings: u8, record: &[u8], owed: &Owed, more: usize) -> Held {
-    line_in(template, settings, record, owed, &owed.rooms(more))
-}
-
-/// A line call with each of these rooms.
-pub fn line_in(template: &[u8], settings: u8, record: &[u8], owed: &Owed, rooms: &[usize]) -> Held {
-    hold(owed, &[template, record], rooms, |lent, out| entries::line(lent[0].part(), settings, lent[1].part(), out))
+    hold(owed, &[template, record], more, |lent, out| entries::line(lent[0].part(), settings, lent[1].part(), out))
         .map_err(|parting| format!("line, settings {settings}, {parting}"))
 }
 
 pub fn session(sheet: &[u8], owed: &Owed, more: usize) -> Held {
-    hold(owed, &[sheet], &owed.rooms(more), |lent, out| entries::session(lent[0].part(), out))
+    hold(owed, &[sheet], more, |lent, out| entries::session(lent[0].part(), out))
         .map_err(|parting| format!("session, {parting}"))
 }
 
 pub fn built_in(choice: [u8; 4], owed: &[u8], more: usize) -> Held {
     let [style, location, timestamp, host] = choice;
-    let owed = Owed::Line(owed.to_vec());
-    hold(&owed, &[], &owed.rooms(more), |_, out| entries::builtin(style, location, timestamp, host, out))
+    hold(&Owed::Line(owed.to_vec()), &[], more, |_, out| entries::builtin(style, location, timestamp, host, out))
         .map_err(|parting| format!("builtin, {parting}"))
 }
 
 pub fn visible(text: &[u8], owed: Vec<u8>, more: usize) -> Held {
-    let owed = Owed::Line(owed);
-    hold(&owed, &[text], &owed.rooms(more), |lent, out| entries::visible(lent[0].part(), out))
+    hold(&Owed::Line(owed), &[text], more, |lent, out| entries::visible(lent[0].part(), out))
         .map_err(|parting| format!("visible of \"{}\", {parting}", text.escape_ascii()))
 }
 
@@ -86,31 +79,24 @@ pub fn check(template: &[u8], settings: u8, owed: Result<bool, Owed>) -> Held {
     let answer = |named: bool| {
         owed.as_ref().map_or_else(|refused| refused.in_room(0).0, |yes| packed(0, usize::from(*yes && named)))
     };
-    asked(&[template], answer(false), |lent| entries::check(lent[0].part(), settings))
+    asked(template, settings, entries::check, answer(false))
         .map_err(|parting| format!("check, settings {settings}, {parting}"))?;
-    asked(&[template], answer(true), |lent| entries::timestamp(lent[0].part(), settings))
+    asked(template, settings, entries::timestamp, answer(true))
         .map_err(|parting| format!("timestamp, settings {settings}, {parting}"))
 }
 
-/// The entry that is lent a template and a record and no buffer.
-pub fn room(template: &[u8], settings: u8, record: &[u8], owed: Result<usize, &Owed>) -> Held {
-    let owed = owed.map_or_else(|refused| refused.in_room(0).0, |room| packed(0, room));
-    asked(&[template, record], owed, |lent| entries::room(lent[0].part(), settings, lent[1].part()))
-        .map_err(|parting| format!("room, settings {settings}, {parting}"))
-}
-
-fn asked(inputs: &[&[u8]], owed: u64, call: impl Fn(&[Lent]) -> u64) -> Held {
-    let lent = lent(inputs);
-    let answer = call(&lent);
+fn asked(template: &[u8], settings: u8, entry: fn(&[u8], u8) -> u64, owed: u64) -> Held {
+    let lent = Lent::holding(template);
+    let answer = entry(lent.part(), settings);
     if answer != owed {
         return Err(format!("answered {} and owed {}", in_words(answer), in_words(owed)));
     }
-    unchanged(&lent, inputs)
+    unchanged(&[lent], &[template])
 }
 
-fn hold(owed: &Owed, inputs: &[&[u8]], rooms: &[usize], call: impl Fn(&[Lent], &mut [u8]) -> u64) -> Held {
-    let lent = lent(inputs);
-    for &room in rooms {
+fn hold(owed: &Owed, inputs: &[&[u8]], more: usize, call: impl Fn(&[Lent], &mut [u8]) -> u64) -> Held {
+    let lent: Vec<Lent> = inputs.iter().map(|input| Lent::holding(input)).collect();
+    for room in owed.rooms(more) {
         let mut out = Lent::blank(room);
         let answer = call(&lent, out.part_mut());
         let (number, front) = owed.in_room(room);
@@ -126,10 +112,6 @@ fn hold(owed: &Owed, inputs: &[&[u8]], rooms: &[usize], call: impl Fn(&[Lent], &
         unchanged(&lent, inputs)?;
     }
     Ok(())
-}
-
-fn lent(inputs: &[&[u8]]) -> Vec<Lent> {
-    inputs.iter().map(|input| Lent::holding(input)).collect()
 }
 
 fn unchanged(lent: &[Lent], inputs: &[&[u8]]) -> Held {

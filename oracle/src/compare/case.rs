@@ -1,12 +1,10 @@
 //! One case, compared in all its answers.
 
 use super::calls::{self, Owed};
-use super::full::Rooms;
 use super::heads::{Judged, Way};
 use super::listed::Listed;
 use super::places::Placed;
 use super::reports::Reported;
-use super::rooms::compare_room;
 use super::ruled::{Ruled, Strictly};
 use crate::reports::Borne;
 use crate::ruling::{self, line::without_sequences, Names};
@@ -47,8 +45,6 @@ pub struct Seen {
     pub places: Vec<Placed>,
     /// Lines whose message has the marks of a comparison report.
     pub reports: Vec<Reported>,
-    /// Lines of texts without byte 27, in the room that is enough.
-    pub rooms: Rooms,
 }
 
 impl Seen {
@@ -105,7 +101,6 @@ impl Case {
 fn compare_unknown(settings: u8, template: &[u8], record: &[u8], more: usize) -> Result<(), String> {
     let owed = Owed::Refused(15);
     calls::check(template, settings, Err(owed.clone()))?;
-    calls::room(template, settings, record, Err(&owed))?;
     calls::line(template, settings, record, &owed, more)?;
     calls::session(&sheet_of(settings, template, record), &owed, more)
 }
@@ -122,8 +117,7 @@ fn compare_line(
 ) -> Result<(), String> {
     for layout in Layout::BOTH {
         let record = Record::read(bytes, layout);
-        let lines = record.as_ref().map(|record| ruled.owed(record, layout, chosen, seen)).transpose()?;
-        let room = record.and_then(|record| ruled.room(&record, layout, chosen));
+        let lines = record.map(|record| ruled.owed(&record, layout, chosen, seen)).transpose()?;
         for others in [0, STRAIGHT, STRICT, STRICT | STRAIGHT] {
             let settings = chosen | others | layout.bit();
             calls::check(template, settings, ruled.names_timestamp(settings))?;
@@ -133,7 +127,6 @@ fn compare_line(
                 (Some(lines), None) => lines[usize::from(settings & STRAIGHT != 0)].clone(),
             };
             compare_owed(ruled, template, settings, bytes, &owed, more)?;
-            compare_room(room.as_ref(), template, settings, bytes, &owed, seen)?;
             seen.answers.push(owed.number());
             match owed {
                 Owed::Line(line) if settings & (COLOUR | STRICT) == COLOUR => compare_visible(&line, more)?,
@@ -191,13 +184,9 @@ fn session(sheet: Option<&Sheet>, seen: &mut Seen) -> Result<Owed, String> {
         return whole(refusal, seen);
     }
     let mut lines = Vec::new();
-    let (layout, settings) = (sheet.layout(), sheet.settings);
     for record in &sheet.records {
-        let [crates, straight] = ruled.owed(record, layout, settings & (COLOUR | PLACES), seen)?;
-        let owed = if settings & STRAIGHT != 0 { straight } else { crates };
-        let room = ruled.room(record, layout, settings);
-        compare_room(room.as_ref(), &sheet.template, settings, &record.write(layout), &owed, seen)?;
-        let owed = in_the_program(owed);
+        let [crates, straight] = ruled.owed(record, sheet.layout(), sheet.settings & (COLOUR | PLACES), seen)?;
+        let owed = in_the_program(if sheet.settings & STRAIGHT != 0 { straight } else { crates });
         seen.answers.push(owed.number());
         lines.extend(printed(&owed));
     }

@@ -1,7 +1,6 @@
 //! What a comparison found: counts, and the partings that are not listed.
 
 use super::case::Seen;
-use super::full::Rooms;
 use super::heads::{Judged, Way};
 use super::listed;
 use super::make::KINDS;
@@ -14,7 +13,7 @@ use std::collections::{BTreeMap, BTreeSet};
 const SHOWN: usize = 5;
 
 /// By length and then by bytes.
-pub type Least = (usize, Vec<u8>);
+type Least = (usize, Vec<u8>);
 
 #[derive(Default)]
 pub struct Found {
@@ -32,8 +31,6 @@ pub struct Found {
     places: [u64; Placed::NAMES.len()],
     /// Lines whose message has the marks of a comparison report, by who judges them.
     reports: [u64; Reported::NAMES.len()],
-    /// How full the rooms of lines were.
-    rooms: Rooms,
     parted: BTreeSet<u64>,
     texts: BTreeMap<u64, String>,
 }
@@ -43,7 +40,7 @@ impl Found {
         self.kinds[kind] += 1;
     }
 
-    pub fn count(&mut self, seen: Seen) {
+    pub fn count(&mut self, seen: &Seen) {
         seen.answers.iter().for_each(|number| self.answers[usize::from(*number)] += 1);
         seen.strictly.iter().for_each(|strictly| self.strictly[*strictly as usize] += 1);
         seen.listed.iter().for_each(|listed| self.listed[*listed as usize] += 1);
@@ -51,7 +48,6 @@ impl Found {
         seen.heads.iter().for_each(|judged| self.heads[*judged as usize] += 1);
         seen.places.iter().for_each(|placed| self.places[*placed as usize] += 1);
         seen.reports.iter().for_each(|reported| self.reports[*reported as usize] += 1);
-        self.rooms.add(seen.rooms);
     }
 
     fn count_way(&mut self, way: Way, count: u64, template: Least) {
@@ -81,7 +77,6 @@ impl Found {
         for (way, (count, least)) in other.ways {
             self.count_way(way, count, least);
         }
-        self.rooms.add(other.rooms);
         self.parted.extend(other.parted);
         for (index, text) in other.texts {
             self.part(index, text);
@@ -105,7 +100,6 @@ impl Found {
         print_counts("line with d as a name", &Judged::NAMES.map(str::to_string), &self.heads);
         print_counts("line in the places rule", &Placed::NAMES.map(str::to_string), &self.places);
         print_counts("line of a comparison", &Reported::NAMES.map(str::to_string), &self.reports);
-        self.rooms.print();
         println!("{count} cases, {} differences not listed", self.parted.len());
         self.parted.is_empty()
     }

@@ -10,7 +10,6 @@ mod paths;
 mod places;
 mod records;
 mod reports;
-mod rooms;
 mod sheets;
 mod short;
 mod strict;
@@ -22,7 +21,7 @@ use crate::sample::cases;
 use crate::sample::random::Rng;
 use crate::sheet::{Record, Sheet, UNKNOWN as UNKNOWN_LEAST};
 
-pub const KINDS: [&str; 13] = [
+pub const KINDS: [&str; 12] = [
     "short templates",
     "long templates",
     "records",
@@ -35,18 +34,16 @@ pub const KINDS: [&str; 13] = [
     "heads",
     "places",
     "reports",
-    "rooms",
 ];
 
-/// The last three of them.
+/// The last two of them.
 const PLACES: usize = 10;
 const REPORTS: usize = 11;
-const ROOMS: usize = 12;
 
 /// Places in `KINDS`. Short templates are cheap, and so many turns show all of up to five tokens in ten million cases.
 const TURNS: [usize; 64] = [
-    0, 1, 0, 2, 0, 3, 0, 0, 8, 0, 11, 0, 4, 0, 0, 7, 0, 9, 0, 0, 10, 0, 7, 0, 3, 0, 0, 12, 0, 2, 5, 0, //
-    0, 1, 0, 2, 0, 3, 0, 0, 8, 0, 10, 0, 4, 0, 0, 11, 0, 8, 0, 0, 1, 0, 9, 0, 10, 0, 0, 11, 0, 12, 6, 0,
+    0, 1, 0, 2, 0, 3, 0, 0, 8, 0, 11, 0, 4, 0, 0, 7, 0, 9, 0, 0, 10, 0, 7, 0, 3, 0, 0, 9, 0, 2, 5, 0, //
+    0, 1, 0, 2, 0, 3, 0, 0, 8, 0, 10, 0, 4, 0, 0, 11, 0, 8, 0, 0, 1, 0, 9, 0, 10, 0, 0, 11, 0, 2, 6, 0,
 ];
 
 /// Settings bytes with a bit that is not known.
@@ -132,21 +129,11 @@ pub fn places_case(seed: u64, index: u64) -> (usize, Case) {
     (PLACES, places::case(&mut rng(seed, index)))
 }
 
-/// A case of chance with comparison reports, and what is nearly one.
+/// A case of chance with comparison reports, and what is nearly one; in the places rule as well as often as others are.
 pub fn report_case(seed: u64, index: u64) -> (usize, Case) {
-    (REPORTS, of_chance(seed, index, reports::case))
-}
-
-/// A case of chance whose line uses much of its room.
-pub fn room_case(seed: u64, index: u64) -> (usize, Case) {
-    (ROOMS, of_chance(seed, index, rooms::case))
-}
-
-/// In the places rule as well as often as others are.
-fn of_chance(seed: u64, index: u64, case: fn(&mut Rng) -> Case) -> Case {
-    let mut case = case(&mut rng(seed, index));
+    let mut case = reports::case(&mut rng(seed, index));
     in_places(index, &mut case);
-    case
+    (REPORTS, case)
 }
 
 fn systematic(index: u64, template: &str, record: Vec<u8>) -> Case {
@@ -198,8 +185,7 @@ impl Maker {
             8 => strictly(&mut rng),
             9 => with_heads(&mut rng),
             PLACES => places::case(&mut rng),
-            REPORTS => reports::case(&mut rng),
-            _ => rooms::case(&mut rng),
+            _ => reports::case(&mut rng),
         };
         in_places(index, &mut case);
         (kind, case)

@@ -7,7 +7,6 @@ use super::heads::{self, Judged, Way};
 use super::listed::{self, Listed};
 use super::places::{placed, Asked};
 use super::reports::Reported;
-use super::rooms::Roomed;
 use crate::head::{self, StandIn};
 use crate::judge::{self, Shown};
 use crate::kelvin;
@@ -105,12 +104,6 @@ impl Ruled {
     /// How the name `d` changes the template, in either edition.
     pub fn ways(&self) -> &[Way] {
         &self.ways
-    }
-
-    /// The room for a record's line, in the first edition, or None where template or record are refused.
-    pub fn room(&self, record: &Record, layout: Layout, settings: u8) -> Option<Roomed> {
-        let reading = self.reading.as_ref().ok().filter(|_| ruling::record(record, layout).is_none())?;
-        Some(Roomed::new(&reading.segments, record, settings))
     }
 
     /// What is owed for a record in the crate's mode and in straight mode, in the first edition; in the strict one it is the
@@ -258,18 +251,13 @@ fn judged_straight(
     straight: &Line,
 ) -> Result<(), String> {
     let same = crates.inserted || straight.text == crates.text;
-    let foreign = holds_escape(segments, record);
+    let foreign = record.fields().iter().any(|field| field.contains(&27)) || has_escape(segments);
     let visible = foreign || without_sequences(&straight.text) == ruling::line(segments, record, rule).text;
     if same && visible {
         Ok(())
     } else {
         Err(format!("straight mode\n  crate's mode: {:?}\n  straight: {:?}", crates.text, straight.text))
     }
-}
-
-/// Whether a text of the template or of the record holds byte 27.
-pub fn holds_escape(segments: &[Segment], record: &Record) -> bool {
-    record.fields().iter().any(|field| field.contains(&27)) || has_escape(segments)
 }
 
 fn has_escape(segments: &[Segment]) -> bool {

@@ -92,11 +92,12 @@ impl Builder<'_> {
                 self.message_alone()
             }
             Kind::Specifier(specifier) => {
-                let colour = match specifier {
-                    Specifier::LogLevel => format.colour.or(Some(Colour::Severity)),
-                    _ => format.colour,
+                let (width, colour) = match specifier {
+                    Specifier::LogLevel => (5, format.colour.or(Some(Colour::Severity))),
+                    Specifier::LineNumber => (4, format.colour),
+                    _ => (0, format.colour),
                 };
-                self.formatted(field(self.record, *specifier), format, default_width(*specifier), colour)
+                self.formatted(self.field(*specifier), format, width, colour)
             }
         }
     }
@@ -138,6 +139,25 @@ impl Builder<'_> {
         self.formatted(text.to_string(), &Format { styles, ..Format::default() }, 0, colour)
     }
 
+    fn field(&self, specifier: Specifier) -> String {
+        let record = self.record;
+        let (file, module) = (record.file().map(text_of), record.module().map(text_of));
+        match specifier {
+            Specifier::CrateName => {
+                module.and_then(|module| module.split_once("::")).map_or("<crate>", |parts| parts.0).to_string()
+            }
+            Specifier::FileName(count) => file.map_or("<file>".to_string(), |file| last_components(file, count)),
+            Specifier::FilePath => file.unwrap_or("<file>").to_string(),
+            Specifier::LineNumber => record.line().unwrap_or(0).to_string(),
+            Specifier::Log => text_of(&record.message).to_string(),
+            Specifier::LogLevel => LEVELS[usize::from(record.level) - 1].0.to_string(),
+            Specifier::ModulePath => module.unwrap_or("<mod path>").to_string(),
+            Specifier::Timestamp if record.source == HOST || record.timestamp.is_empty() => "<time>".to_string(),
+            Specifier::Timestamp => text_of(&record.timestamp).to_string(),
+            Specifier::HeadSerial => record.head().map_or(NO_HEAD, text_of).to_string(),
+        }
+    }
+
     fn formatted(&mut self, text: String, format: &Format, default: usize, colour: Option<Colour>) -> String {
         let visible = without_sequences(&text);
         let width = format.width.unwrap_or(default);
@@ -167,34 +187,6 @@ impl Builder<'_> {
         let codes: Vec<String> = styles.chain(foreground).map(|code| code.to_string()).collect();
         let applies = self.settings & COLOUR != 0 && !codes.is_empty();
         applies.then(|| format!("\x1b[{}m", codes.join(";")))
-    }
-}
-
-/// The text that a specifier shows of a record with a level, placeholders included.
-pub(super) fn field(record: &Record, specifier: Specifier) -> String {
-    let (file, module) = (record.file().map(text_of), record.module().map(text_of));
-    match specifier {
-        Specifier::CrateName => {
-            module.and_then(|module| module.split_once("::")).map_or("<crate>", |parts| parts.0).to_string()
-        }
-        Specifier::FileName(count) => file.map_or("<file>".to_string(), |file| last_components(file, count)),
-        Specifier::FilePath => file.unwrap_or("<file>").to_string(),
-        Specifier::LineNumber => record.line().unwrap_or(0).to_string(),
-        Specifier::Log => text_of(&record.message).to_string(),
-        Specifier::LogLevel => LEVELS[usize::from(record.level) - 1].0.to_string(),
-        Specifier::ModulePath => module.unwrap_or("<mod path>").to_string(),
-        Specifier::Timestamp if record.source == HOST || record.timestamp.is_empty() => "<time>".to_string(),
-        Specifier::Timestamp => text_of(&record.timestamp).to_string(),
-        Specifier::HeadSerial => record.head().map_or(NO_HEAD, text_of).to_string(),
-    }
-}
-
-/// The width of a specifier that asks for none.
-pub(super) fn default_width(specifier: Specifier) -> usize {
-    match specifier {
-        Specifier::LogLevel => 5,
-        Specifier::LineNumber => 4,
-        _ => 0,
     }
 }
 

@@ -43,7 +43,6 @@ pub fn all(seed: u64) -> Vec<Case> {
     maker.heads();
     maker.places();
     maker.reports();
-    maker.rooms();
     maker.cases
 }
 
@@ -85,13 +84,6 @@ impl Maker {
     /// A case that the port prints alike, made to be within the limits.
     pub(super) fn alike(&mut self, family: &'static str, settings: u8, template: &str, records: Vec<Record>) {
         self.put(0, true, family, Sheet { settings, template: template.into(), records });
-    }
-
-    /// The same plain, in the crate's mode and in straight mode.
-    pub(super) fn in_every_mode(&mut self, family: &'static str, template: &str, record: Record) {
-        for settings in [0, COLOUR, COLOUR | STRAIGHT] {
-            self.alike(family, settings, template, vec![record.clone()]);
-        }
     }
 
     /// A case of chance: dropped unless it is surely within the limits. True when kept.

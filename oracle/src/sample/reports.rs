@@ -48,18 +48,25 @@ const BY_CHANCE: usize = 240;
 impl Maker {
     pub(super) fn reports(&mut self) {
         for (template, message, ..) in PLAIN.iter().chain(COLOURED) {
-            self.in_every_mode(FAMILY, template, saying(message));
+            self.in_every_mode(template, saying(message));
         }
         for message in MESSAGES {
             for template in TEMPLATES {
-                self.in_every_mode(FAMILY, template, saying(message));
+                self.in_every_mode(template, saying(message));
             }
-            self.in_every_mode(FAMILY, "{s}", Record { level: 0, ..saying(message) });
-            self.in_every_mode(FAMILY, "{[{s:9}]%bold%60}|", Record { source: HOST, ..saying(message) });
+            self.in_every_mode("{s}", Record { level: 0, ..saying(message) });
+            self.in_every_mode("{[{s:9}]%bold%60}|", Record { source: HOST, ..saying(message) });
         }
         self.reports_by_places();
         self.reports_at_limits();
         self.reports_by_chance();
+    }
+
+    /// Plain, in the crate's mode and in straight mode.
+    fn in_every_mode(&mut self, template: &str, record: Record) {
+        for settings in [0, COLOUR, COLOUR | STRAIGHT] {
+            self.alike(FAMILY, settings, template, vec![record.clone()]);
+        }
     }
 
     fn reports_by_places(&mut self) {
@@ -82,8 +89,8 @@ impl Maker {
         for right in ["a".repeat(2000), "a".repeat(1999) + "b"] {
             let values = format!("\n left: `{}`\nright: `{right}`", "a".repeat(2000));
             let of_size = |size: usize| saying(&("x".repeat(size - values.len()) + &values));
-            self.in_every_mode(FAMILY, "{s}", of_size(4095));
-            self.in_every_mode(FAMILY, "{s}", of_size(4096));
+            self.in_every_mode("{s}", of_size(4095));
+            self.in_every_mode("{s}", of_size(4096));
             self.parted(11, FAMILY, "{s}", of_size(4097));
         }
     }

@@ -7,7 +7,7 @@ use pralakuon::entries;
 use std::hint::black_box;
 
 /// The template of samples/wall.sheet.
-pub const WALL: &str = "{t:>12} {[{L}]%bold%<9}|{gauge {c:>8}: {s:>24}%dimmed%40}| {ff:>20}:{l}";
+const WALL: &str = "{t:>12} {[{L}]%bold%<9}|{gauge {c:>8}: {s:>24}%dimmed%40}| {ff:>20}:{l}";
 
 const MODES: [(&str, u8); 3] = [("plain", 0), ("coloured", COLOUR), ("straight", COLOUR | STRAIGHT)];
 

@@ -41,8 +41,6 @@ fn print() {
     for (name, strict) in [("", 0), (", strict", STRICT)] {
         let used = most(&sheets(straight | strict), |sheet| entries::session(sheet, &mut out));
         println!("| `pralakuon_session`{name} | {used} |");
-        let used = most(&templates, |template| entries::room(template, straight | strict, &record));
-        println!("| `pralakuon_room`{name} | {used} |");
         println!("| `pralakuon_check`{name} | {} |", most(&templates, |template| entries::check(template, strict)));
         println!(
             "| `pralakuon_timestamp`{name} | {} |",

@@ -52,26 +52,38 @@ told_none : (d : List ℕ) (p : Places) → Compares d p Nothing → Told d p (r
 unfolding places_of compared_by has_comparison spans_of
 told_none d p k = record { long = refl; places = refl; compares = k }
 
--- whichever way they were written
-told : (c : goal.Joined-c) → Told c.args.d.now c.args.p c.match-c.numbers
-told c =
+pub slice_bounds-write_line-end : goal.slice_bounds-write_line-end
+slice_bounds-write_line-end c =
+    let told : Told c.args.d.now c.args.p c.match-c.numbers =
     let d = c.args.d.now in
     let p = c.args.p in
     ⊎_elim
     (λ w. subst (Told d p) (sym w.5) (told_at d p w.1.given.0.0 (subst (Compares d p) w.1.given.1 c.requires.1)))
     (λ w. subst (Told d p) (sym w.2) (told_none d p (subst (Compares d p) w.1.given.1 c.requires.1)))
-    c.match-c.branch
-
-pub slice_bounds-write_line-end : goal.slice_bounds-write_line-end
-slice_bounds-write_line-end c = sym (told c).long
+    c.match-c.branch in
+    sym told.long
 
 pub write_line-requires : goal.write_line-requires
 write_line-requires c =
-    let k = told c in
+    let told : Told c.args.d.now c.args.p c.match-c.numbers =
+    let d = c.args.d.now in
+    let p = c.args.p in
+    ⊎_elim
+    (λ w. subst (Told d p) (sym w.5) (told_at d p w.1.given.0.0 (subst (Compares d p) w.1.given.1 c.requires.1)))
+    (λ w. subst (Told d p) (sym w.2) (told_none d p (subst (Compares d p) w.1.given.1 c.requires.1)))
+    c.match-c.branch in
+    let k = told in
     writable c.args.cells.now c.args.t.now c.args.d.now c.args.n c.args.p c.match-c.numbers c.requires.0 k.places (omega (arith, k.long)) k.compares
 
 pub returns : goal.returns
 returns c =
-    let e = record_by_lem c.args.cells.now c.args.t.now c.args.d.now c.args.n c.args.p c.match-c.numbers c.requires.0 (told c).places in
+    let told : Told c.args.d.now c.args.p c.match-c.numbers =
+    let d = c.args.d.now in
+    let p = c.args.p in
+    ⊎_elim
+    (λ w. subst (Told d p) (sym w.5) (told_at d p w.1.given.0.0 (subst (Compares d p) w.1.given.1 c.requires.1)))
+    (λ w. subst (Told d p) (sym w.2) (told_none d p (subst (Compares d p) w.1.given.1 c.requires.1)))
+    c.match-c.branch in
+    let e = record_by_lem c.args.cells.now c.args.t.now c.args.d.now c.args.n c.args.p c.match-c.numbers c.requires.0 told.places in
     let x = ap (λ (r : Record). segments_text c.args.s c.args.t.now r (chain_at c.args.cells.now c.args.n)) e in
     (c.write_line.ensures.0 ∙ ap length x, c.write_line.ensures.1 ∙ ap (written c.args.out.now) x)

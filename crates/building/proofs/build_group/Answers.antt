@@ -25,7 +25,7 @@ returns-then-p c =
 pub returns-then-not-g : goal.returns-then-not-g
 returns-then-not-g c =
     record {
-      cells_after = group_bare _ _ _ _ c.if-p.false (sym c.requires.1.direct ∙ c.if-not-g.true);
+      cells_after = group_bare _ _ _ _ c.if-p.false (sym c.requires.1.direct ∙ (not-true _ c.if-not-g.true));
       keeps = λ lo to n d h g u w. keeps_refused _ _ _ _ _ _ _ _ refl;
     }
 
@@ -33,7 +33,7 @@ returns-then-not-g c =
 pub returns-then-g-ge64 : goal.returns-then-g-ge64
 returns-then-g-ge64 c =
     record {
-      cells_after = group_full _ _ _ _ c.if-p.false (sym c.requires.1.direct ∙ c.if-not-g.false) c.if-g-ge64.true;
+      cells_after = group_full _ _ _ _ c.if-p.false (sym c.requires.1.direct ∙ (not-false _ c.if-not-g.false)) c.if-g-ge64.true;
       keeps = λ lo to n d h g u w. keeps_refused _ _ _ _ _ _ _ _ refl;
     }
 
@@ -45,6 +45,6 @@ put_group-requires c = omega arith
 pub returns : goal.returns
 returns c =
     record {
-      cells_after = group_told _ _ _ _ c.if-p.false (sym c.requires.1.direct ∙ c.if-not-g.false) (omega arith) _ c.put_group.ensures.adds;
+      cells_after = group_told _ _ _ _ c.if-p.false (sym c.requires.1.direct ∙ (not-false _ c.if-not-g.false)) (omega arith) _ c.put_group.ensures.adds;
       keeps = λ lo to n d h g u w. group_keeps _ _ c.args.g _ c.requires.0 (omega arith) lo to _ h g c.put_group.ensures.adds c.put_group.ensures.ends n d w u;
     }

@@ -32,6 +32,6 @@ returns-then-left-from c = (few_two _ c.args.from c.args.to c.loop-next.left c.l
 pub returns : goal.returns
 returns c =
     let w = c.loop-next.invariant in (
-  last_two_are _ c.args.from c.args.to c.loop-next.left c.loop-next.stop c.loop-next.right c.loop-next.last c.loop-next.next w c.loop-next-test.false c.requires.1 c.if-left-from.false,
-  (c.loop-next.invariant.inside.0, (c.loop-next.invariant.inside.1.0, (c.loop-next.invariant.inside.1.1, omega (arith, c.loop-next.invariant.ahead.0, c.loop-next.invariant.ahead.1)))),
-)
+      last_two_are _ c.args.from c.args.to c.loop-next.left c.loop-next.stop c.loop-next.right c.loop-next.last c.loop-next.next w c.loop-next-test.false c.requires.1 c.if-left-from.false,
+      (c.loop-next.invariant.inside.0, (c.loop-next.invariant.inside.1.0, (c.loop-next.invariant.inside.1.1, omega (arith, c.loop-next.invariant.ahead.0, c.loop-next.invariant.ahead.1)))),
+    )

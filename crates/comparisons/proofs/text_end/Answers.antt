@@ -21,8 +21,7 @@ ended_line-last-requires c = (omega (arith, c.if-from-to.false), search rules)
 
 pub returns-then-d-to-eq10 : goal.returns-then-d-to-eq10
 returns-then-d-to-eq10 c =
-    let d = c.args.d.now in
-    (
+    let d = c.args.d.now in (
       (c.ended_line-last.ensures.1.0.0, omega (arith, c.ended_line-last.ensures.1.0.1)),
       c.ended_line-last.ensures.1.1 ∙ sym (unended_at d c.args.from c.args.to (c.args.to - 1) (omega (arith, c.if-from-to.false)) (omega (arith, c.if-from-to.false)) (omega (arith, c.if-from-to.false)) c.if-d-to-eq10.true),
     )

@@ -21,7 +21,7 @@ put-v-requires c =
 pub put-w-requires : goal.put-w-requires
 put-w-requires c =
     let k = c.loop-w.invariant in
-    omega (arith, c.loop-w.invariant.inside, c.loop-w.invariant.long, c.put-v.ensures.0, c.put-v.auto.0, reset_fits k (sym c.starts_with.ensures ∙ c.if-starts_with.true))
+    omega (arith, c.loop-w.invariant.inside, c.loop-w.invariant.long, c.put-v.ensures.0, c.put-v.auto.dst, reset_fits k (sym c.starts_with.ensures ∙ c.if-starts_with.true))
 
 pub overflow_add-r : goal.overflow_add-r
 overflow_add-r c = omega (arith, c.ranges.e, reset_fits c.loop-w.invariant (sym c.starts_with.ensures ∙ c.if-starts_with.true))
@@ -32,7 +32,7 @@ loop-w-smaller-then-starts_with c = omega (arith, reset_fits c.loop-w.invariant 
 pub loop-w-preserved-then-starts_with : goal.loop-w-preserved-then-starts_with
 loop-w-preserved-then-starts_with c =
     moved_reset c.loop-w.invariant (sym c.starts_with.ensures ∙ c.if-starts_with.true)
-    c.put-v.new.dst c.put-w.new.dst c.put-v.result c.put-w.result c.put-v.ensures c.put-w.ensures (c.put-w.auto.0 ∙ c.put-v.auto.0)
+    c.put-v.new.dst c.put-w.new.dst c.put-v.result c.put-w.result c.put-v.ensures c.put-w.ensures (c.put-w.auto.dst ∙ c.put-v.auto.dst)
 
 pub bounds-out-r : goal.bounds-out-r
 bounds-out-r c =

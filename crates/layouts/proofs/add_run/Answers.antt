@@ -22,72 +22,88 @@ returns-then-is_left_out c =
     let a = c.args.a in
     sym (grown_nil a) ∙ ap (grown a) (sym (left_out c.args.s c.args.d.now c.args.r (sym c.is_left_out.ensures ∙ c.if-is_left_out.true)))
 
--- the run is shown
-is_shown : (c : goal.Else-is_left_out) → is_left_out c.args.r.text ≡ false
-is_shown c = sym c.is_left_out.ensures ∙ c.if-is_left_out.false
-
 pub add_text-requires : goal.add_text-requires
 add_text-requires c =
+    let is_shown : is_left_out c.args.r.text ≡ false =
+    sym c.is_left_out.ensures ∙ c.if-is_left_out.false in
     record {
       text_within = c.requires.run_fits.within;
-      small = (c.requires.small.0, omega (arith, c.requires.small.1, shown_longer c.args.s c.args.d.now c.args.r c.requires.run_fits.width (is_shown c)));
+      small = (c.requires.small.0, omega (arith, c.requires.small.1, shown_longer c.args.s c.args.d.now c.args.r c.requires.run_fits.width is_shown));
     }
 
 pub returns-then-prefix_len-eq0 : goal.returns-then-prefix_len-eq0
 returns-then-prefix_len-eq0 c =
+    let is_shown : is_left_out c.args.r.text ≡ false =
+    sym c.is_left_out.ensures ∙ c.if-is_left_out.false in
     let e = sym c.prefix_len.ensures.0 ∙ c.if-prefix_len-eq0.true in
-    c.add_text.ensures ∙ ap (grown c.args.a) (sym (shown_bare c.args.s c.args.d.now c.args.r c.requires.run_fits.width (is_shown c) e))
+    c.add_text.ensures ∙ ap (grown c.args.a) (sym (shown_bare c.args.s c.args.d.now c.args.r c.requires.run_fits.width is_shown e))
 
 pub add_text-m-requires : goal.add_text-m-requires
 add_text-m-requires c =
+    let is_shown : is_left_out c.args.r.text ≡ false =
+    sym c.is_left_out.ensures ∙ c.if-is_left_out.false in
     record {
       text_within = c.requires.run_fits.within;
-      small = shown_countable c.args.s c.args.d.now c.args.r c.requires.run_fits.width (is_shown c) c.none.result c.none.ensures (omega (arith, c.requires.small.1));
+      small = shown_countable c.args.s c.args.d.now c.args.r c.requires.run_fits.width is_shown c.none.result c.none.ensures (omega (arith, c.requires.small.1));
     }
 
 pub inserted_in-n-requires : goal.inserted_in-n-requires
-inserted_in-n-requires c = shown_resets c.args.s c.args.d.now c.args.r c.requires.run_fits.width (is_shown c) c.none.result c.add_text-m.result c.none.ensures c.add_text-m.ensures (omega (arith, c.requires.small.1))
+inserted_in-n-requires c =
+    let is_shown : is_left_out c.args.r.text ≡ false =
+    sym c.is_left_out.ensures ∙ c.if-is_left_out.false in
+    shown_resets c.args.s c.args.d.now c.args.r c.requires.run_fits.width is_shown c.none.result c.add_text-m.result c.none.ensures c.add_text-m.ensures (omega (arith, c.requires.small.1))
 
--- it is its text in a frame, where the bytes inserted are known
-is_framed : (c : goal.After-inserted_in-n)
-    → (Framed c.args.s (frame_of c.args.r.format c.inserted_in-n.result) (text_bytes c.args.r.text c.args.d.now) (run_text c.args.s c.args.d.now c.args.r))
-is_framed c =
-    shown_framed c.args.s c.args.d.now c.args.r c.requires.run_fits.width (is_shown c) c.none.result c.add_text-m.result c.none.ensures c.add_text-m.ensures c.inserted_in-n.result c.inserted_in-n.ensures
-
--- the measure after the prefix
-opened_small : (c : goal.After-opened-b) → Small c.opened-b.result
-opened_small c =
+pub add_text-c-requires : goal.add_text-c-requires
+add_text-c-requires c =
+    let is_shown : is_left_out c.args.r.text ≡ false =
+    sym c.is_left_out.ensures ∙ c.if-is_left_out.false in
+    let is_framed : (Framed c.args.s (frame_of c.args.r.format c.inserted_in-n.result) (text_bytes c.args.r.text c.args.d.now) (run_text c.args.s c.args.d.now c.args.r)) =
+    shown_framed c.args.s c.args.d.now c.args.r c.requires.run_fits.width is_shown c.none.result c.add_text-m.result c.none.ensures c.add_text-m.ensures c.inserted_in-n.result c.inserted_in-n.ensures in
+    let opened_small : Small c.opened-b.result =
     let f = c.args.r.format in
-    subst Small (sym c.opened-b.ensures) (small_grown c.args.a (opening c.args.s f ++ replicate 0 (pad_byte c.args.r.format.padding)) c.requires.small.0)
-
-opened_len : (c : goal.After-opened-b)
-    → (c.opened-b.result.len + (length (text_bytes c.args.r.text c.args.d.now) + c.inserted_in-n.result) < 2 ^ 57)
-opened_len c =
+    subst Small (sym c.opened-b.ensures) (small_grown c.args.a (opening c.args.s f ++ replicate 0 (pad_byte c.args.r.format.padding)) c.requires.small.0) in
+    let opened_len : (c.opened-b.result.len + (length (text_bytes c.args.r.text c.args.d.now) + c.inserted_in-n.result) < 2 ^ 57) =
     let s = c.args.s in
     let r = c.args.r in
     let w = frame_of c.args.r.format c.inserted_in-n.result in
     let t = text_bytes c.args.r.text c.args.d.now in
     let y = run_text s c.args.d.now r in
-    let h = is_framed c in
-    omega (arith, ap (λ (k : Measure). k.len) c.opened-b.ensures, open_length s w t y h, framed_length s w t y h, c.requires.small.1)
-
-pub add_text-c-requires : goal.add_text-c-requires
-add_text-c-requires c =
+    let h = is_framed in
+    omega (arith, ap (λ (k : Measure). k.len) c.opened-b.ensures, open_length s w t y h, framed_length s w t y h, c.requires.small.1) in
     record {
       text_within = c.requires.run_fits.within;
-      small = (opened_small c, omega (arith, opened_len c));
+      small = (opened_small, omega (arith, opened_len));
     }
 
 pub closed-requires : goal.closed-requires
 closed-requires c =
+    let is_shown : is_left_out c.args.r.text ≡ false =
+    sym c.is_left_out.ensures ∙ c.if-is_left_out.false in
+    let is_framed : (Framed c.args.s (frame_of c.args.r.format c.inserted_in-n.result) (text_bytes c.args.r.text c.args.d.now) (run_text c.args.s c.args.d.now c.args.r)) =
+    shown_framed c.args.s c.args.d.now c.args.r c.requires.run_fits.width is_shown c.none.result c.add_text-m.result c.none.ensures c.add_text-m.ensures c.inserted_in-n.result c.inserted_in-n.ensures in
+    let opened_small : Small c.opened-b.result =
+    let f = c.args.r.format in
+    subst Small (sym c.opened-b.ensures) (small_grown c.args.a (opening c.args.s f ++ replicate 0 (pad_byte c.args.r.format.padding)) c.requires.small.0) in
+    let opened_len : (c.opened-b.result.len + (length (text_bytes c.args.r.text c.args.d.now) + c.inserted_in-n.result) < 2 ^ 57) =
+    let s = c.args.s in
+    let r = c.args.r in
+    let w = frame_of c.args.r.format c.inserted_in-n.result in
+    let t = text_bytes c.args.r.text c.args.d.now in
+    let y = run_text s c.args.d.now r in
+    let h = is_framed in
+    omega (arith, ap (λ (k : Measure). k.len) c.opened-b.ensures, open_length s w t y h, framed_length s w t y h, c.requires.small.1) in
     let e = c.add_text-c.ensures in
-    let small = subst Small (sym e) (small_grown c.opened-b.result (text_bytes c.args.r.text c.args.d.now) (opened_small c)) in
-    (small, omega (arith, ap (λ (k : Measure). k.len) e, opened_len c))
+    let small = subst Small (sym e) (small_grown c.opened-b.result (text_bytes c.args.r.text c.args.d.now) opened_small) in
+    (small, omega (arith, ap (λ (k : Measure). k.len) e, opened_len))
 
 pub returns : goal.returns
 returns c =
+    let is_shown : is_left_out c.args.r.text ≡ false =
+    sym c.is_left_out.ensures ∙ c.if-is_left_out.false in
+    let is_framed : (Framed c.args.s (frame_of c.args.r.format c.inserted_in-n.result) (text_bytes c.args.r.text c.args.d.now) (run_text c.args.s c.args.d.now c.args.r)) =
+    shown_framed c.args.s c.args.d.now c.args.r c.requires.run_fits.width is_shown c.none.result c.add_text-m.result c.none.ensures c.add_text-m.ensures c.inserted_in-n.result c.inserted_in-n.ensures in
     let s = c.args.s in
     let r = c.args.r in
     let d = c.args.d.now in
     c.closed.ensures
-    ∙ frame_walked s (frame_of c.args.r.format c.inserted_in-n.result) (text_bytes c.args.r.text d) (run_text s d r) (is_framed c) c.args.a c.opened-b.result c.add_text-c.result c.opened-b.ensures c.add_text-c.ensures
+    ∙ frame_walked s (frame_of c.args.r.format c.inserted_in-n.result) (text_bytes c.args.r.text d) (run_text s d r) is_framed c.args.a c.opened-b.result c.add_text-c.result c.opened-b.ensures c.add_text-c.ensures

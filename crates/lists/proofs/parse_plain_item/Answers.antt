@@ -13,8 +13,11 @@ parse_even_item-requires c = (c.requires.0, c.requires.1, c.requires.2, c.requir
 
 pub returns-then-even : goal.returns-then-even
 returns-then-even c =
-    let it = (plain_mode _ _ _ _ _ _ _ c.parse_even_item.ensures.cells_after c.if-even.true, c.parse_even_item.ensures.1) in
-    record { cells_after = it.0; front = it.1.0; keeps = it.1.1 }
+    record {
+      cells_after = plain_mode _ _ _ _ _ _ _ c.parse_even_item.ensures.cells_after c.if-even.true;
+      front = c.parse_even_item.ensures.front;
+      keeps = c.parse_even_item.ensures.keeps;
+    }
 
 pub parse_odd_item-requires : goal.parse_odd_item-requires
 parse_odd_item-requires c = (c.requires.0, c.requires.1, c.requires.3.narrow)

@@ -29,7 +29,7 @@ loop-i-preserved c =
     let links = c.args.links.now in (
       omega arith,
       (
-        c.link_forward.auto.0 ∙ c.loop-i.invariant.1.0,
+        c.link_forward.auto.links ∙ c.loop-i.invariant.1.0,
         c.link_forward.ensures ∙ ap (λ (a : List ℕ). linked_by a c.loop-i.i c.back_at-b.result) c.loop-i.invariant.1.1 ∙ sym (links_more cells links c.loop-i.i c.back_at-b.result c.back_at-b.ensures.0),
       ),
     )

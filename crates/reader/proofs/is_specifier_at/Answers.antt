@@ -1,12 +1,6 @@
 use Rattle.segments.specs.Segments.{is_specifier}
 use Rattle.segments.proofs.Chains.{segment_text_lem, segment_group, segment_specifier}
-use borrow.Author.Rules.{rules}
-use native.Mathlib.Omega.{arith}
-use Prim.Native.Nat.{ℕ, zero, suc, ◌+◌, ◌-◌, ◌*◌, ◌≤◌, ◌<◌}
-use mathlib.Core.Path.{◌≡◌, refl, sym, ap, subst, ◌∙◌}
-use mathlib.Core.List.{List, [], ◌∷◌, ◌++◌}
-use mathlib.Core.Bool.{Bool, true, false, not}
-use lib.ListN.{length, get_or}
+use mathlib.Core.Path.{sym, ap, ◌∙◌}
 use Rattle.reader.proofs.is_specifier_at.Goals as goal
 
 pub kind_at-k-requires : goal.kind_at-k-requires

@@ -64,8 +64,13 @@ raw_of-x-requires c =
     let s = c.args.s in let t₀ = c.args.t.now in let d = c.args.d.now in let n = c.args.numbers.now in let cells = c.args.cells.now in
     let i = c.args.i in let x = segment_at cells i in
     let q : is_bare (bare_by n) x ≡ false = sym c.is_bare.ensures ∙ c.if-is_bare.false in
-    let it = (c.requires.readable, (c.requires.tabled, ((subst Small (sym c.none.ensures) (small_nothing c.args.s.rule), omega (arith, c.requires.i_len_bound, raw_shorter s t₀ d n c.requires.readable.lent x false q, ap (λ (y : Measure). y.len) c.none.ensures)), c.requires.1.1.1))) in
-    record { readable = it.0; tabled = it.1.0; small = it.1.1.0; low = it.1.1.1.0; forward = it.1.1.1.1 }
+    record {
+      readable = c.requires.readable;
+      tabled = c.requires.tabled;
+      small = (subst Small (sym c.none.ensures) (small_nothing c.args.s.rule), omega (arith, c.requires.i_len_bound, raw_shorter s t₀ d n c.requires.readable.lent x false q, ap (λ (y : Measure). y.len) c.none.ensures));
+      low = c.requires.low;
+      forward = c.requires.forward;
+    }
 
 pub inserted_in-n-requires : goal.inserted_in-n-requires
 inserted_in-n-requires c =

@@ -66,8 +66,7 @@ loop-i-smaller c = omega (arith, c.loop-i-test.true)
 
 pub loop-i-preserved : goal.loop-i-preserved
 loop-i-preserved c =
-    let s = c.args.s in let t₀ = c.args.t.now in let d = c.args.d.now in let n = c.args.numbers.now in let cells = c.args.cells.now in let r = record_by n d in
-    (
+    let s = c.args.s in let t₀ = c.args.t.now in let d = c.args.d.now in let n = c.args.numbers.now in let cells = c.args.cells.now in let r = record_by n d in (
       omega (arith, c.loop-i-test.true),
       (
         row_set_length c.loop-i.table c.loop-i.i c.row_for-r.result ∙ c.loop-i.invariant.1.0,

@@ -1,6 +1,5 @@
 -- `unused::left_by` meets its contract. Assumes nothing.
 use Rattle.unused.proofs.Places.{left_told}
-use borrow.Author.Rules.{rules}
 use Rattle.unused.proofs.left_by.Goals as goal
 
 pub returns : goal.returns

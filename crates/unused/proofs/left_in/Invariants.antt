@@ -1,11 +1,7 @@
 -- `unused::left_in` meets its contract. Assumes nothing.
 use Rattle.unused.specs.Looking.{place_told, look_top, tops_looked}
-use Rattle.words.proofs.Attempts.{repeated_fit, repeated_misfit}
 use Rattle.words.specs.Trying.{repeated}
 use Rattle.unused.specs.Looking.{place_told, look_top, tops_looked}
-use Rattle.unused.proofs.Looked.{piece_fit, piece_misfit, piece_bounds, top_begins, top_past, rest_dropped, rest_none}
-use borrow.Author.Rules.{rules}
-use native.Mathlib.Omega.{arith}
 use Prim.Native.Nat.{ℕ, ◌-◌, ◌≤◌}
 use mathlib.Core.Path.{◌≡◌}
 use lib.ListN.{length}

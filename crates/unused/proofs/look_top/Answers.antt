@@ -2,7 +2,6 @@
 use Rattle.unused.specs.Looking.{look_top}
 use Rattle.endings.proofs.Ended.{ends_bounds}
 use Rattle.unused.proofs.Looked.{either_brace, either_plain, either_none, piece_bounds, fit_within, misfit_within}
-use borrow.Author.Rules.{rules}
 use native.Mathlib.Omega.{arith}
 use Rattle.unused.proofs.look_top.Goals as goal
 

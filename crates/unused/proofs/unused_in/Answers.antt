@@ -1,7 +1,6 @@
 -- `unused::unused_in` meets its contract. Assumes nothing.
 use Rattle.unused.proofs.Agreed.{left_is_unused}
 use Rattle.unused.proofs.Looked.{least_of_all}
-use borrow.Author.Rules.{rules}
 use mathlib.Core.Path.{◌∙◌}
 use Rattle.unused.proofs.unused_in.Goals as goal
 

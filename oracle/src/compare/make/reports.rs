@@ -1,6 +1,6 @@
 //! Comparison reports, and what is nearly one, by templates with groups around the message.
 
-use super::{places, rooms, UNKNOWN};
+use super::{places, UNKNOWN};
 use crate::compare::case::Case;
 use crate::sample::random::{Rng, STYLES};
 use crate::sheet::{Layout, Record, Sheet, DEVICE, HOST};
@@ -37,7 +37,7 @@ pub fn case(rng: &mut Rng) -> Case {
 }
 
 /// Mostly a device's, and now and then a print without level.
-pub fn record(rng: &mut Rng, layout: Layout) -> Record {
+fn record(rng: &mut Rng, layout: Layout) -> Record {
     let mask = rng.below(8) as u8;
     let mut record = Record { source: DEVICE, ..rng.record_with(mask) };
     super::heads::give(rng, layout, &mut record);
@@ -51,14 +51,13 @@ pub fn record(rng: &mut Rng, layout: Layout) -> Record {
 }
 
 fn template(rng: &mut Rng) -> String {
-    match rng.below(16) {
-        0..=5 => rng.pick(TEMPLATES).to_string(),
-        6 | 7 => {
+    match rng.below(8) {
+        0..=2 => rng.pick(TEMPLATES).to_string(),
+        3 => {
             let depth = 1 + rng.below(4);
             rng.template(depth)
         }
-        8 | 9 => places::template(rng),
-        10 => rooms::template(rng),
+        4 => places::template(rng),
         _ => around(rng),
     }
 }

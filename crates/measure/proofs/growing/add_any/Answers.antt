@@ -21,7 +21,7 @@ add_places-requires c =
     record {
       small = p;
       rule_value = (c.in-Places.is, c.scan_found-u.ensures);
-      chars_value = c.count_chars-c.ensures;
+      chars_value = (c.count_chars-c.ensures.chars_value, c.count_chars-c.ensures.met_value);
     }
 
 pub returns-in-Characters : goal.returns-in-Characters

@@ -18,11 +18,10 @@ pub returns-then-s-i-eq27 : goal.returns-then-s-i-eq27
 returns-then-s-i-eq27 c = sym (not_free c.args.s.now c.loop-i.i c.loop-i-test.true (omega (arith, c.if-s-i-gt127.false)) c.if-s-i-eq27.true) ∙ c.loop-i.invariant.1
 
 pub loop-i-preserved : goal.loop-i-preserved
-loop-i-preserved c =
-    (
-      search rules,
-      sym (plain_on c.args.s.now c.loop-i.i c.loop-i-test.true (omega (arith, c.if-s-i-gt127.false)) c.if-s-i-eq27.false) ∙ c.loop-i.invariant.1,
-    )
+loop-i-preserved c = (
+  search rules,
+  sym (plain_on c.args.s.now c.loop-i.i c.loop-i-test.true (omega (arith, c.if-s-i-gt127.false)) c.if-s-i-eq27.false) ∙ c.loop-i.invariant.1,
+)
 
 pub returns : goal.returns
 returns c = sym (plain_end_lem c.args.s.now c.loop-i.i c.loop-i-test.false) ∙ c.loop-i.invariant.1

@@ -22,23 +22,23 @@ own_bytes-requires c =
       laid_value = c.requires.laid_value;
     }
 
--- what the segment adds is what its own bytes and `each` are together
-own_is : (c : goal.After-own_bytes invariant-loop decreases-loop)
-    → own_room c.args.colour c.args.t.now (record_in c.args.d.now c.args.p) (segment_at c.args.cells.now c.loop-i.i) ≡ c.own_bytes.result + c.per_segment-each.result
-unfolding own_room
-own_is c = omega (arith, c.own_bytes.ensures, c.per_segment-each.ensures)
-
 pub overflow_add-sum : goal.overflow_add-sum
+unfolding own_room
 overflow_add-sum c =
+    let own_is : own_room c.args.colour c.args.t.now (record_in c.args.d.now c.args.p) (segment_at c.args.cells.now c.loop-i.i) ≡ c.own_bytes.result + c.per_segment-each.result =
+    omega (arith, c.own_bytes.ensures, c.per_segment-each.ensures) in
     let i = c.loop-i.i in
-    omega (arith, own_is c, own_small (laid_by c.args.p c.args.d.now) c.requires.accepted.texts c.args.t.now c.requires.accepted.template c.args.colour (segment_at c.args.cells.now i) (c.requires.accepted.read.sound.low i c.loop-i-test.true))
+    omega (arith, own_is, own_small (laid_by c.args.p c.args.d.now) c.requires.accepted.texts c.args.t.now c.requires.accepted.template c.args.colour (segment_at c.args.cells.now i) (c.requires.accepted.read.sound.low i c.loop-i-test.true))
 
 pub overflow_add-sum-in-loop-i : goal.overflow_add-sum-in-loop-i
+unfolding own_room
 overflow_add-sum-in-loop-i c =
+    let own_is : own_room c.args.colour c.args.t.now (record_in c.args.d.now c.args.p) (segment_at c.args.cells.now c.loop-i.i) ≡ c.own_bytes.result + c.per_segment-each.result =
+    omega (arith, c.own_bytes.ensures, c.per_segment-each.ensures) in
     let i = c.loop-i.i in
     omega (
       arith,
-      own_is c,
+      own_is,
       own_small (laid_by c.args.p c.args.d.now) c.requires.accepted.texts c.args.t.now c.requires.accepted.template c.args.colour (segment_at c.args.cells.now i) (c.requires.accepted.read.sound.low i c.loop-i-test.true),
       below_small (laid_by c.args.p c.args.d.now) c.requires.accepted.texts c.args.t.now c.requires.accepted.template c.args.colour c.args.cells.now i (λ j e. c.requires.accepted.read.sound.low j (omega (arith, c.loop-i-test.true))),
       c.loop-i.invariant.1,
@@ -53,7 +53,11 @@ pub loop-i-smaller : goal.loop-i-smaller
 loop-i-smaller c = omega (arith, c.loop-i-test.true)
 
 pub loop-i-preserved : goal.loop-i-preserved
-loop-i-preserved c = (omega (arith, c.loop-i-test.true), omega (arith, own_is c, c.loop-i.invariant.1, below_next c.args.colour c.args.t.now (record_in c.args.d.now c.args.p) c.args.cells.now c.loop-i.i))
+unfolding own_room
+loop-i-preserved c =
+    let own_is : own_room c.args.colour c.args.t.now (record_in c.args.d.now c.args.p) (segment_at c.args.cells.now c.loop-i.i) ≡ c.own_bytes.result + c.per_segment-each.result =
+    omega (arith, c.own_bytes.ensures, c.per_segment-each.ensures) in
+    (omega (arith, c.loop-i-test.true), omega (arith, own_is, c.loop-i.invariant.1, below_next c.args.colour c.args.t.now (record_in c.args.d.now c.args.p) c.args.cells.now c.loop-i.i))
 
 pub returns : goal.returns
 returns c =

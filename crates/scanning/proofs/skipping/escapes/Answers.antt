@@ -17,8 +17,7 @@ overflow_add-count c = omega (arith, c.requires, c.is_escape-count.ensures.0, c.
 
 pub loop-i-preserved : goal.loop-i-preserved
 loop-i-preserved c =
-    let s = c.args.s.now in
-    (
+    let s = c.args.s.now in (
       search rules,
       (
         omega (arith, c.is_escape-count.ensures.0, c.loop-i.invariant.1.0),

@@ -45,4 +45,4 @@ pub returns-in-12 : goal.returns-in-12
 returns-in-12 c = sym (ap stored_colour c.in-12.is)
 
 pub returns-in-13-to-max : goal.returns-in-13-to-max
-returns-in-13-to-max c = sym (entry_past _ stored_colours _ (above 12 _ (above 11 _ (above 10 _ (above 9 _ (above 8 _ (above 7 _ (above 6 _ (above 5 _ (above 4 _ (above 3 _ (above 2 _ (above 1 _ (above 0 _ (omega arith) c.in-13-to-max.in-13-to-max-own.rest.0.0.0.0.0.0.0.0.0.0.0.0.1) c.in-13-to-max.rest.0.0.0.0.0.0.0.0.0.0.0.1) c.in-13-to-max.rest.0.0.0.0.0.0.0.0.0.0.1) c.in-13-to-max.rest.0.0.0.0.0.0.0.0.0.1) c.in-13-to-max.rest.0.0.0.0.0.0.0.0.1) c.in-13-to-max.rest.0.0.0.0.0.0.0.1) c.in-13-to-max.rest.0.0.0.0.0.0.1) c.in-13-to-max.rest.0.0.0.0.0.1) c.in-13-to-max.rest.0.0.0.0.1) c.in-13-to-max.rest.0.0.0.1) c.in-13-to-max.rest.0.0.1) c.in-13-to-max.rest.0.1) c.in-13-to-max.rest.1))
+returns-in-13-to-max c = sym (entry_past _ stored_colours _ (above 12 _ (above 11 _ (above 10 _ (above 9 _ (above 8 _ (above 7 _ (above 6 _ (above 5 _ (above 4 _ (above 3 _ (above 2 _ (above 1 _ (above 0 _ (omega arith) c.in-13-to-max.in-13-to-max-own.rest.0.0.0.0.0.0.0.0.0.0.0.0.1) c.in-13-to-max.in-13-to-max-own.rest.0.0.0.0.0.0.0.0.0.0.0.1) c.in-13-to-max.in-13-to-max-own.rest.0.0.0.0.0.0.0.0.0.0.1) c.in-13-to-max.in-13-to-max-own.rest.0.0.0.0.0.0.0.0.0.1) c.in-13-to-max.in-13-to-max-own.rest.0.0.0.0.0.0.0.0.1) c.in-13-to-max.in-13-to-max-own.rest.0.0.0.0.0.0.0.1) c.in-13-to-max.in-13-to-max-own.rest.0.0.0.0.0.0.1) c.in-13-to-max.in-13-to-max-own.rest.0.0.0.0.0.1) c.in-13-to-max.in-13-to-max-own.rest.0.0.0.0.1) c.in-13-to-max.in-13-to-max-own.rest.0.0.0.1) c.in-13-to-max.in-13-to-max-own.rest.0.0.1) c.in-13-to-max.in-13-to-max-own.rest.0.1) c.in-13-to-max.in-13-to-max-own.rest.1))

@@ -43,4 +43,4 @@ pub returns-in-10 : goal.returns-in-10
 returns-in-10 c = sym (ap (entry Kind.Text (kinds _)) c.in-10.is)
 
 pub returns-in-11-to-max : goal.returns-in-11-to-max
-returns-in-11-to-max c = sym (entry_past _ (kinds _) _ (above 10 _ (above 9 _ (above 8 _ (above 7 _ (above 6 _ (above 5 _ (above 4 _ (above 3 _ (above 2 _ (above 1 _ (above 0 _ (omega arith) c.in-11-to-max.in-11-to-max-own.rest.0.0.0.0.0.0.0.0.0.0.1) c.in-11-to-max.rest.0.0.0.0.0.0.0.0.0.1) c.in-11-to-max.rest.0.0.0.0.0.0.0.0.1) c.in-11-to-max.rest.0.0.0.0.0.0.0.1) c.in-11-to-max.rest.0.0.0.0.0.0.1) c.in-11-to-max.rest.0.0.0.0.0.1) c.in-11-to-max.rest.0.0.0.0.1) c.in-11-to-max.rest.0.0.0.1) c.in-11-to-max.rest.0.0.1) c.in-11-to-max.rest.0.1) c.in-11-to-max.rest.1))
+returns-in-11-to-max c = sym (entry_past _ (kinds _) _ (above 10 _ (above 9 _ (above 8 _ (above 7 _ (above 6 _ (above 5 _ (above 4 _ (above 3 _ (above 2 _ (above 1 _ (above 0 _ (omega arith) c.in-11-to-max.in-11-to-max-own.rest.0.0.0.0.0.0.0.0.0.0.1) c.in-11-to-max.in-11-to-max-own.rest.0.0.0.0.0.0.0.0.0.1) c.in-11-to-max.in-11-to-max-own.rest.0.0.0.0.0.0.0.0.1) c.in-11-to-max.in-11-to-max-own.rest.0.0.0.0.0.0.0.1) c.in-11-to-max.in-11-to-max-own.rest.0.0.0.0.0.0.1) c.in-11-to-max.in-11-to-max-own.rest.0.0.0.0.0.1) c.in-11-to-max.in-11-to-max-own.rest.0.0.0.0.1) c.in-11-to-max.in-11-to-max-own.rest.0.0.0.1) c.in-11-to-max.in-11-to-max-own.rest.0.0.1) c.in-11-to-max.in-11-to-max-own.rest.0.1) c.in-11-to-max.in-11-to-max-own.rest.1))

@@ -44,6 +44,6 @@ returns-in-62 c =
 pub returns-in_default : goal.returns-in_default
 returns-in_default c =
     record {
-      result_value = c.parse_digits-in_default.ensures.result_value ∙ sym (width_plain _ _ _ c.if-to-from.false c.in_default.in_default-own.rest.0.1 c.in_default.rest.0.0.1 c.in_default.rest.1);
+      result_value = c.parse_digits-in_default.ensures.result_value ∙ sym (width_plain _ _ _ c.if-to-from.false c.in_default.in_default-own.rest.0.1 c.in_default.in_default-own.rest.0.0.1 c.in_default.in_default-own.rest.1);
       within = c.parse_digits-in_default.ensures.within;
     }

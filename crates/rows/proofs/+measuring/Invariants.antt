@@ -1,0 +1,24 @@
+-- `rows::join_of`, `rows::raw_of` and `rows::seg_of` end, since the depth falls around the cycle. The loop's invariant: j is a link on the way
+-- back from l, and the members back from j are measured. Assumes nothing.
+use Rattle.std.proofs.Common.{◌≡◌, ◌+◌, ◌*◌, ◌-◌, ◌≤◌}
+use Rattle.measure.specs.Measures.{grown}
+use Rattle.segments.specs.Pool.{chain_at}
+use Rattle.members.specs.Links.{OnChain}
+use Rattle.leaves.specs.Places.{record_by}
+use Rattle.rows.specs.Texts.{segments_text}
+use Rattle.rows.proofs.+measuring.Given as goal
+
+abbrev pub decreases-join_of : goal.decreases-join_of
+decreases-join_of l = 3 * l.depth + 2
+
+abbrev pub decreases-raw_of : goal.decreases-raw_of
+decreases-raw_of l = 3 * l.depth
+
+abbrev pub decreases-seg_of : goal.decreases-seg_of
+decreases-seg_of l = 3 * l.depth + 1
+
+abbrev pub invariant-join_of-loop-j : goal.invariant-join_of-loop-j
+invariant-join_of-loop-j l = ((l.j ≤ l.l) × OnChain l.cells l.l l.j) × (l.b ≡ grown l.initial.b (segments_text l.s l.t (record_by l.numbers l.d) (chain_at l.cells l.j)))
+
+abbrev pub decreases-join_of-loop-j : goal.decreases-join_of-loop-j
+decreases-join_of-loop-j l = l.l - l.j
