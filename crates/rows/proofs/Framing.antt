@@ -164,7 +164,7 @@ module _ (s : Settings) (t d numbers : List ℕ) (lent : Lent d numbers) where
   unfolding frame_by row_in formatted
   framed_plain f y z n e = record { left = refl; right = refl; between = refl; text = e }
 
-  pub framed_by : (x : LogSegment) (w : Frame) (row : Row) → is_bare (bare_by numbers) x ≡ false → row ≡ row_of s t (record_by numbers d) x
+  framed_by : (x : LogSegment) (w : Frame) (row : Row) → is_bare (bare_by numbers) x ≡ false → row ≡ row_of s t (record_by numbers d) x
       → w ≡ frame_by (format_of (level_by numbers) x) row → Framed s w (raw_text s t (record_by numbers d) x) (segment_text s t (record_by numbers d) x)
   framed_by x w row b re we =
       subst (λ (k : Frame). Framed s k (raw_text s t (record_by numbers d) x) (segment_text s t (record_by numbers d) x))

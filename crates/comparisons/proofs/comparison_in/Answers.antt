@@ -43,36 +43,36 @@ returns-then-not-is_value-2 c =
 pub overflow_add-p : goal.overflow_add-p
 overflow_add-p c =
     let w = subst (EndingWithin c.args.from c.args.to) c.in-Two.is c.last_two-ending.ensures.1 in
-    let x : c.in-Two.p.left.from + 9 ≤ c.in-Two.p.left.to = subst (Long c.in-Two.p.left.from c.in-Two.p.left.to) (not-false c.is_value.result c.if-not-is_value.false) c.is_value.ensures.1 in
-    let y : c.in-Two.p.right.from + 9 ≤ c.in-Two.p.right.to = subst (Long c.in-Two.p.right.from c.in-Two.p.right.to) (not-false c.is_value-2.result c.if-not-is_value-2.false) c.is_value-2.ensures.1 in
+    let x : c.in-Two.p.left.from + 9 ≤ c.in-Two.p.left.to = subst (Long c.in-Two.p.left.from c.in-Two.p.left.to) (c.if-not-is_value.false) c.is_value.ensures.1 in
+    let y : c.in-Two.p.right.from + 9 ≤ c.in-Two.p.right.to = subst (Long c.in-Two.p.right.from c.in-Two.p.right.to) (c.if-not-is_value-2.false) c.is_value-2.ensures.1 in
     search rules
 
 pub overflow_sub-p : goal.overflow_sub-p
 overflow_sub-p c =
     let w = subst (EndingWithin c.args.from c.args.to) c.in-Two.is c.last_two-ending.ensures.1 in
-    let x : c.in-Two.p.left.from + 9 ≤ c.in-Two.p.left.to = subst (Long c.in-Two.p.left.from c.in-Two.p.left.to) (not-false c.is_value.result c.if-not-is_value.false) c.is_value.ensures.1 in
-    let y : c.in-Two.p.right.from + 9 ≤ c.in-Two.p.right.to = subst (Long c.in-Two.p.right.from c.in-Two.p.right.to) (not-false c.is_value-2.result c.if-not-is_value-2.false) c.is_value-2.ensures.1 in
+    let x : c.in-Two.p.left.from + 9 ≤ c.in-Two.p.left.to = subst (Long c.in-Two.p.left.from c.in-Two.p.left.to) (c.if-not-is_value.false) c.is_value.ensures.1 in
+    let y : c.in-Two.p.right.from + 9 ≤ c.in-Two.p.right.to = subst (Long c.in-Two.p.right.from c.in-Two.p.right.to) (c.if-not-is_value-2.false) c.is_value-2.ensures.1 in
     omega (arith, x)
 
 pub overflow_add-p-2 : goal.overflow_add-p-2
 overflow_add-p-2 c =
     let w = subst (EndingWithin c.args.from c.args.to) c.in-Two.is c.last_two-ending.ensures.1 in
-    let x : c.in-Two.p.left.from + 9 ≤ c.in-Two.p.left.to = subst (Long c.in-Two.p.left.from c.in-Two.p.left.to) (not-false c.is_value.result c.if-not-is_value.false) c.is_value.ensures.1 in
-    let y : c.in-Two.p.right.from + 9 ≤ c.in-Two.p.right.to = subst (Long c.in-Two.p.right.from c.in-Two.p.right.to) (not-false c.is_value-2.result c.if-not-is_value-2.false) c.is_value-2.ensures.1 in
+    let x : c.in-Two.p.left.from + 9 ≤ c.in-Two.p.left.to = subst (Long c.in-Two.p.left.from c.in-Two.p.left.to) (c.if-not-is_value.false) c.is_value.ensures.1 in
+    let y : c.in-Two.p.right.from + 9 ≤ c.in-Two.p.right.to = subst (Long c.in-Two.p.right.from c.in-Two.p.right.to) (c.if-not-is_value-2.false) c.is_value-2.ensures.1 in
     search rules
 
 pub overflow_sub-p-2 : goal.overflow_sub-p-2
 overflow_sub-p-2 c =
     let w = subst (EndingWithin c.args.from c.args.to) c.in-Two.is c.last_two-ending.ensures.1 in
-    let x : c.in-Two.p.left.from + 9 ≤ c.in-Two.p.left.to = subst (Long c.in-Two.p.left.from c.in-Two.p.left.to) (not-false c.is_value.result c.if-not-is_value.false) c.is_value.ensures.1 in
-    let y : c.in-Two.p.right.from + 9 ≤ c.in-Two.p.right.to = subst (Long c.in-Two.p.right.from c.in-Two.p.right.to) (not-false c.is_value-2.result c.if-not-is_value-2.false) c.is_value-2.ensures.1 in
+    let x : c.in-Two.p.left.from + 9 ≤ c.in-Two.p.left.to = subst (Long c.in-Two.p.left.from c.in-Two.p.left.to) (c.if-not-is_value.false) c.is_value.ensures.1 in
+    let y : c.in-Two.p.right.from + 9 ≤ c.in-Two.p.right.to = subst (Long c.in-Two.p.right.from c.in-Two.p.right.to) (c.if-not-is_value-2.false) c.is_value-2.ensures.1 in
     omega (arith, y)
 
 pub spans_of-s-requires : goal.spans_of-s-requires
 spans_of-s-requires c =
     let w = subst (EndingWithin c.args.from c.args.to) c.in-Two.is c.last_two-ending.ensures.1 in
-    let x : c.in-Two.p.left.from + 9 ≤ c.in-Two.p.left.to = subst (Long c.in-Two.p.left.from c.in-Two.p.left.to) (not-false c.is_value.result c.if-not-is_value.false) c.is_value.ensures.1 in
-    let y : c.in-Two.p.right.from + 9 ≤ c.in-Two.p.right.to = subst (Long c.in-Two.p.right.from c.in-Two.p.right.to) (not-false c.is_value-2.result c.if-not-is_value-2.false) c.is_value-2.ensures.1 in
+    let x : c.in-Two.p.left.from + 9 ≤ c.in-Two.p.left.to = subst (Long c.in-Two.p.left.from c.in-Two.p.left.to) (c.if-not-is_value.false) c.is_value.ensures.1 in
+    let y : c.in-Two.p.right.from + 9 ≤ c.in-Two.p.right.to = subst (Long c.in-Two.p.right.from c.in-Two.p.right.to) (c.if-not-is_value-2.false) c.is_value-2.ensures.1 in
     ((omega (arith, x), omega (arith, w.0.0, w.0.1, w.1.0, w.1.1.0, w.1.1.1, c.requires.1, x, y)), (omega (arith, y), omega (arith, w.0.0, w.0.1, w.1.0, w.1.1.0, w.1.1.1, c.requires.1, x, y)))
 
 pub returns : goal.returns
@@ -80,7 +80,7 @@ returns c =
     let d = c.args.d.now in
     let p = c.in-Two.p in
     let w = subst (EndingWithin c.args.from c.args.to) c.in-Two.is c.last_two-ending.ensures.1 in
-    let x : c.in-Two.p.left.from + 9 ≤ c.in-Two.p.left.to = subst (Long c.in-Two.p.left.from c.in-Two.p.left.to) (not-false c.is_value.result c.if-not-is_value.false) c.is_value.ensures.1 in
-    let y : c.in-Two.p.right.from + 9 ≤ c.in-Two.p.right.to = subst (Long c.in-Two.p.right.from c.in-Two.p.right.to) (not-false c.is_value-2.result c.if-not-is_value-2.false) c.is_value-2.ensures.1 in
+    let x : c.in-Two.p.left.from + 9 ≤ c.in-Two.p.left.to = subst (Long c.in-Two.p.left.from c.in-Two.p.left.to) (c.if-not-is_value.false) c.is_value.ensures.1 in
+    let y : c.in-Two.p.right.from + 9 ≤ c.in-Two.p.right.to = subst (Long c.in-Two.p.right.from c.in-Two.p.right.to) (c.if-not-is_value-2.false) c.is_value-2.ensures.1 in
     let s = c.spans_of-s.ensures in
     (both d c.args.from (part c.args.from c.args.to d) p (ap (by_ending d c.args.from) (sym c.in-Two.is) ∙ c.last_two-ending.ensures.0) c.spans_of-s.result (ap (value_by d c.in-Two.p.left.from c.in-Two.p.left.to) (sym (c.if-not-is_value.false)) ∙ c.is_value.ensures.0) (ap (value_by d c.in-Two.p.right.from c.in-Two.p.right.to) (sym (c.if-not-is_value-2.false)) ∙ c.is_value-2.ensures.0) s, ((omega (arith, c.spans_of-s.ensures.head_is, w.0.0, w.0.1, w.1.0, w.1.1.0, w.1.1.1, c.requires.1, x, y), omega (arith, c.spans_of-s.ensures.head_is, c.spans_of-s.ensures.left_is)), ((omega (arith, c.spans_of-s.ensures.left_to, c.spans_of-s.ensures.right_is, w.0.0, w.0.1, w.1.0, w.1.1.0, w.1.1.1, c.requires.1, x, y), omega (arith, c.spans_of-s.ensures.right_to, w.0.0, w.0.1, w.1.0, w.1.1.0, w.1.1.1, c.requires.1, x, y)), (c.spans_of-s.ensures.left_ordered, c.spans_of-s.ensures.right_ordered))))

@@ -33,8 +33,7 @@ shape_of-into c = length-set c.loop-left.into c.loop-left.i c.digit-2.result ∙
 
 pub returns : goal.returns
 unfolding decimal_text
-returns c =
-    (
-      search rules,
-      digits_end_lem c.loop-left.i c.loop-left.left c.digit-2.result c.loop-left.into (digits 10 c.args.n) (omega (arith, c.loop-left.invariant.1.1.0)) c.loop-left.invariant.1.1.1 (omega (arith, c.loop-left.invariant.1.1.0)) (omega arith) c.digit-2.ensures,
-    )
+returns c = (
+  search rules,
+  digits_end_lem c.loop-left.i c.loop-left.left c.digit-2.result c.loop-left.into (digits 10 c.args.n) (omega (arith, c.loop-left.invariant.1.1.0)) c.loop-left.invariant.1.1.1 (omega (arith, c.loop-left.invariant.1.1.0)) (omega arith) c.digit-2.ensures,
+)

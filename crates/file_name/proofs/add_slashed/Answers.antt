@@ -38,8 +38,7 @@ slice-bounds-add-end c =
     search rules
 
 pub add-b-requires-in-loop-from : goal.add-b-requires-in-loop-from
-add-b-requires-in-loop-from c =
-    (
+add-b-requires-in-loop-from c = (
   small_on c.loop-from.b c.add-b.result (bytes "/") c.add-b.ensures c.loop-from.invariant.1.0,
   omega (arith, slashed_room c.args.d.now c.loop-from.k c.args.e c.next_component-c.result c.next_component-c.ensures.0 c.in-At.from c.in-At.to c.in-At.is, len_on c.loop-from.b c.add-b.result (bytes "/") c.add-b.ensures, ap (λ (m : Measure). m.len) c.loop-from.invariant.1.1, c.requires.small.1),
 )
@@ -51,8 +50,7 @@ loop-from-smaller c =
 
 pub loop-from-preserved : goal.loop-from-preserved
 loop-from-preserved c =
-    let w = within_at c.loop-from.k c.args.e c.in-At.from c.in-At.to c.next_component-c.result c.in-At.is c.next_component-c.ensures.1 in
-    (
+    let w = within_at c.loop-from.k c.args.e c.in-At.from c.in-At.to c.next_component-c.result c.in-At.is c.next_component-c.ensures.1 in (
       search rules,
       (
         small_on c.add-b.result c.add-b-in-loop-from.result (part c.in-At.from c.in-At.to c.args.d.now) c.add-b-in-loop-from.ensures (small_on c.loop-from.b c.add-b.result (bytes "/") c.add-b.ensures c.loop-from.invariant.1.0),

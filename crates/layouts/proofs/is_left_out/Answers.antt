@@ -19,7 +19,7 @@ no_part (Part i j) h = absurd (miss (0 ∷ 2 ∷ []) 1 tt h)
 no_part (Fixed i j) h = refl
 
 pub returns-in_default : goal.returns-in_default
-returns-in_default c = no_part _ c.in_default.keys2
+returns-in_default c = no_part _ c.in_default.in_default-own.keys2
 
 pub returns : goal.returns
 unfolding is_left_out

@@ -108,7 +108,7 @@ overflow_add-b-2 c =
     shown_framed c.args.s c.args.d.now c.args.r c.requires.run_fits.width is_shown c.none.result c.add_text-m.result c.none.ensures c.add_text-m.ensures c.inserted_in-n.result c.inserted_in-n.ensures in
     let is_long_lem : (let a = c.args in length (run_text c.args.s c.args.d.now c.args.r) ≡ c.prefix_len-p.result + (c.inserted_in-n.result + (length (text_bytes c.args.r.text c.args.d.now) + 4))) =
     dressed_length c.args.s c.args.d.now c.args.r c.inserted_in-n.result c.prefix_len-p.result is_framed c.prefix_len-p.ensures.0 c.if-p-eq0.false in
-    omega (arith, c.requires.r_in_bounds.0, c.well-formed.1.1.1.0.0, is_long_lem)
+    omega (arith, c.requires.r_in_bounds.0, c.well_formed.1.1.1.0.0, is_long_lem)
 
 pub put_text-e-requires : goal.put_text-e-requires
 put_text-e-requires c =
