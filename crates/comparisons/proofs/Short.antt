@@ -1,10 +1,9 @@
--- How long a layout is at most: its pieces and 20 bytes for marks and newlines are no longer than the message. Assumes nothing.
+-- How long a layout is at most: its pieces together are no longer than the message. Assumes nothing.
 use Prim.Native.Nat.{ℕ, zero, suc, ◌+◌, ◌*◌, ◌-◌, ◌≤◌, ◌<◌, ◌^◌}
 use mathlib.Core.Path.{◌≡◌, refl, sym, ap, ◌∙◌, subst}
 use mathlib.Core.Bool.{Bool, true, false, ◌&&◌}
 use mathlib.Core.List.{List, [], ◌∷◌, ◌++◌, append_assoc}
 use native.Mathlib.Omega.{arith}
-use borrow.Author.Tests.{leb-true}
 use lib.Dec.{eqb, leb}
 use lib.ListN.{length, take, drop, length-append, length-drop, length-take}
 use lib.Seq.{drop-drop}
@@ -57,38 +56,35 @@ lines_short (b ∷ s) = by (eqb b 0x0A) (starts_with (bytes "\r\n") (b ∷ s)) (
 
 abbrev Fits : ℕ → Maybe Comparison → Type 0
 Fits n none = Unit {0}
-Fits n (some c) = length c.head + (length c.left + length c.right) + 20 ≤ n
+Fits n (some c) = length c.head + (length c.left + length c.right) ≤ n
 
--- a value with k bytes of marks
-abbrev Holds : ℕ → ℕ → Maybe (List ℕ) → Type 0
-Holds k n none = Unit {0}
-Holds k n (some t) = length t + k ≤ n
+abbrev Holds : ℕ → Maybe (List ℕ) → Type 0
+Holds n none = Unit {0}
+Holds n (some t) = length t ≤ n
 
-value_short : (mark x : List ℕ) → Holds (length mark + 1) (length x) (value_in mark x)
+value_short : (mark x : List ℕ) → Holds (length x) (value_in mark x)
 unfolding value_in
-value_short mark x = by (starts_with mark x) (ends_with 0x60 x) (leb (length mark + 1) (length x)) refl
+value_short mark x = by (starts_with mark x && ends_with 0x60 x && leb (length mark + 1) (length x))
   where
-    by : (a b c : Bool) → leb (length mark + 1) (length x) ≡ c
-        → Holds (length mark + 1) (length x) (elim (a && b && c) [ true ↦ some (take (length x - (length mark + 1)) (drop (length mark) x)) | false ↦ none ])
-    by true true true e = omega (arith, leb-true (length mark + 1) (length x) e, length-take (length x - (length mark + 1)) (drop (length mark) x), length-drop (length mark) x)
-    by true true false e = tt
-    by true false c e = tt
-    by false b c e = tt
+    by : (b : Bool) → Holds (length x) (elim b [ true ↦ some (take (length x - (length mark + 1)) (drop (length mark) x)) | false ↦ none ])
+    by true = omega (arith, length-take (length x - (length mark + 1)) (drop (length mark) x), length-drop (length mark) x)
+    by false = tt
 
-compared_short : (h : List (List ℕ)) (l r : Maybe (List ℕ)) (i j n : ℕ) → Holds 9 i l → Holds 9 j r → length (joined_by_newline h) + (i + j) + 2 ≤ n → Fits n (comparing h l r)
+compared_short : (h : List (List ℕ)) (l r : Maybe (List ℕ)) (i j n : ℕ) → Holds i l → Holds j r → length (joined_by_newline h) + (i + j) ≤ n → Fits n (comparing h l r)
 unfolding comparing
 compared_short h none r i j n f g e = tt
 compared_short h (some l) none i j n f g e = tt
 compared_short h (some l) (some r) i j n f g e = omega arith
 
--- two lines more, each behind a newline
-joined_two : (a : List ℕ) (h : List (List ℕ)) (x y : List ℕ) → length (joined_by_newline (a ∷ h)) + (length x + length y) + 2 ≤ length (joined_by_newline (a ∷ (h ++ x ∷ y ∷ [])))
+-- two lines more
+joined_two : (h : List (List ℕ)) (x y : List ℕ) → length (joined_by_newline h) + (length x + length y) ≤ length (joined_by_newline (h ++ x ∷ y ∷ []))
 unfolding joined_by_newline
-joined_two a [] x y = omega (arith, length-append a (0x0A ∷ (x ++ 0x0A ∷ y)), length-append x (0x0A ∷ y))
-joined_two a (b ∷ h) x y =
+joined_two [] x y = omega (arith, length-append x (0x0A ∷ y))
+joined_two (a ∷ []) x y = omega (arith, length-append a (0x0A ∷ (x ++ 0x0A ∷ y)), length-append x (0x0A ∷ y))
+joined_two (a ∷ (b ∷ h)) x y =
     omega (
       arith,
-      joined_two b h x y,
+      joined_two (b ∷ h) x y,
       length-append a (0x0A ∷ joined_by_newline (b ∷ h)),
       length-append a (0x0A ∷ joined_by_newline (b ∷ (h ++ x ∷ y ∷ []))),
     )
@@ -100,12 +96,12 @@ by_lines_short [] (x ∷ (y ∷ [])) n e = subst (Fits n) (sym (by_two x y)) tt
 by_lines_short (a ∷ h) (x ∷ (y ∷ [])) n e =
     subst (Fits n) (sym (by_last (a ∷ h) x y (omega arith)))
     (compared_short (a ∷ h) (value_in (bytes " left: `") x) (value_in (bytes "right: `") y) (length x) (length y) n (value_short (bytes " left: `") x) (value_short (bytes "right: `") y)
-    (omega (arith, joined_two a h x y)))
+    (omega (arith, joined_two (a ∷ h) x y)))
 by_lines_short h (x ∷ (y ∷ (z ∷ r))) n e =
     subst (Fits n) (sym (by_turn h x y z r))
     (by_lines_short (h ++ x ∷ []) (y ∷ (z ∷ r)) n (subst (λ (k : List (List ℕ)). length (joined_by_newline k) ≤ n) (sym (append_assoc h (x ∷ []) (y ∷ (z ∷ r)))) e))
 
-pub comparison_short : (m : List ℕ) (c : Comparison) → comparison m ≡ some c → length c.head + (length c.left + length c.right) + 20 ≤ length m
+pub comparison_short : (m : List ℕ) (c : Comparison) → comparison m ≡ some c → length c.head + (length c.left + length c.right) ≤ length m
 unfolding comparison
 comparison_short m c e = subst (Fits (length m)) e (by_lines_short [] (lines m) (length m) (lines_short m))
 
@@ -147,14 +143,7 @@ unfolding backwards
 length_backwards [] = refl
 length_backwards (a ∷ x) = omega (arith, length-append (backwards x) (a ∷ []), length_backwards x)
 
--- what two values share, at the beginning and at the end of what remains, lies in each of them
-pub shared_within : (x y : List (List ℕ)) (n k : ℕ) → n ≡ shared x y → k ≡ shared (backwards (drop n x)) (backwards (drop n y)) → (n + k ≤ length x) × (n + k ≤ length y)
-shared_within x y n k e h = (
-  omega (arith, shared_left x y, shared_left (backwards (drop n x)) (backwards (drop n y)), length_backwards (drop n x), length-drop n x),
-  omega (arith, shared_right x y, shared_right (backwards (drop n x)) (backwards (drop n y)), length_backwards (drop n y), length-drop n y),
-)
-
-pub three_lengths : (x : List (List ℕ)) (n k : ℕ) → n + k ≤ length x
+three_lengths : (x : List (List ℕ)) (n k : ℕ) → n + k ≤ length x
     → length (all_of (take n x)) + (length (all_of (take (length x - (n + k)) (drop n x))) + length (all_of (drop (length x - k) x))) ≡ length (all_of x)
 three_lengths x n k h =
     let e : n + (length x - (n + k)) ≡ length x - k = omega arith in
@@ -205,16 +194,20 @@ module _ (s : Settings) where
       let y = characters c.right in
       let n = shared x y in
       let k = shared (backwards (drop n x)) (backwards (drop n y)) in
-      let both = shared_within x y n k refl refl in
+      let left : n + k ≤ length x = within n (shared (backwards (drop n x)) (backwards (drop n y))) x (shared_left x y) (shared_left (backwards (drop n x)) (backwards (drop n y))) in
+      let right : n + k ≤ length y = within n (shared (backwards (drop n x)) (backwards (drop n y))) y (shared_right x y) (shared_right (backwards (drop n x)) (backwards (drop n y))) in
       let rest = more (text (bytes "\n")) (more (specifier (run_format plain_styles (Inked Green)) (bytes ">")) (runs Green y n k shown.none)) in
       omega (
         arith,
         members_short (layout c),
-        runs_most Green y n k shown.none both.1,
-        runs_most Red x n k rest both.0,
+        runs_most Green y n k shown.none right,
+        runs_most Red x n k rest left,
         ap length (all_characters c.left),
         ap length (all_characters c.right),
       )
+    where
+      within : (n k : ℕ) (x : List (List ℕ)) → n ≤ length x → k ≤ length (backwards (drop n x)) → n + k ≤ length x
+      within n k x h g = omega (arith, length_backwards (drop n x), length-drop n x)
 
   -- so a message that isn't long has a layout that isn't
   pub laid_small : (m : List ℕ) (c : Comparison) → comparison m ≡ some c → length m ≤ 4096 → length (joined s (layout c)) < 2 ^ 18

@@ -276,7 +276,7 @@ fn text_end(d: &[u8], from: usize, to: usize) -> usize
 }
 
 // Whether the last line of a message ends as that of a comparison does. Its last bytes tell, so that other messages needn't be walked along.
-pub fn is_closed(d: &[u8], from: usize, to: usize) -> bool
+fn is_closed(d: &[u8], from: usize, to: usize) -> bool
     requires { (from ≤ to) × (to ≤ length d.now) }
     ensures { result ≡ ends_with 0x60 (unended (part from to d.now)) }
 {

@@ -5,7 +5,6 @@ use Rattle.settled.specs.Settled.{Settled}
 use Rattle.settled.proofs.Equal.{same, here, past}
 use Rattle.packing.proofs as packing
 use Rattle.answer.proofs as answer
-use Rattle.rooms.proofs as rooms
 use Rattle.checking.proofs as checking
 use Rattle.builtin.proofs as builtin
 use Rattle.visible.proofs as visible
@@ -35,11 +34,6 @@ measure_record_settled _ _ _ _ _ _ p q = (same p q, refl)
 
 line_settled : Settled 3 answer.line.Kinds.ps answer.line.Kinds.r answer.line.Reads.Post
 line_settled _ _ _ _ _ _ p q = (same p.0 q.0, past (past (past (here (same p.1.0 q.1.0)))))
-
--- ---- rooms
-
-room_settled : Settled 2 rooms.room.Kinds.ps rooms.room.Kinds.r rooms.room.Reads.Post
-room_settled _ _ _ _ _ _ p q = (same p.0 q.0, refl)
 
 -- ---- checking
 

@@ -143,9 +143,6 @@ before_text_settled _ _ _ _ _ _ p q = (same p.0 q.0, refl)
 
 -- ---- comparisons
 
-is_closed_settled : Settled 1 comparisons.is_closed.Kinds.ps comparisons.is_closed.Kinds.r comparisons.is_closed.Reads.Post
-is_closed_settled _ _ _ _ _ _ p q = (same p q, refl)
-
 add_head_settled : Settled 1 comparisons.head.add_head.Kinds.ps comparisons.head.add_head.Kinds.r comparisons.head.add_head.Reads.Post
 add_head_settled _ _ _ _ _ _ p q = (same p q, refl)
 

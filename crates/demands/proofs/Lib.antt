@@ -18,7 +18,3 @@ pub mod VisibleText
 pub mod Places
 pub mod Frees
 pub mod Layouts
-pub mod Depth
-pub mod LayoutRooms
-pub mod Rooms
-pub mod RoomCalls

@@ -159,7 +159,7 @@ unfolding time_of
 free_time Defmt t f = free_not_empty t f
 free_time Host t f = tt
 
-pub free_wording : (r : Record) → FreeRecord r → (m : LogMetadata) → Free (wording r m)
+free_wording : (r : Record) → FreeRecord r → (m : LogMetadata) → Free (wording r m)
 unfolding wording decimal_text
 free_wording r f CrateName = free_or no_crate (free_by_test no_crate refl) (there before_colons r.module_path) (free_there before_colons free_before_colons r.module_path f.module_path)
 free_wording r f (FileName n) = free_or no_file (free_by_test no_file refl) (there (file_name n) r.file) (free_there (file_name n) (free_file_name n) r.file f.file)

@@ -16,6 +16,4 @@ pub mod Lines
 pub mod OneLine
 pub mod StrictDemand
 pub mod StrictExamples
-pub mod RoomDemand
-pub mod RoomExamples
 pub mod VisibleText

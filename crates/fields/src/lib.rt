@@ -11,7 +11,7 @@ ghost use Rattle.fields.specs.Texts.{no_crate, or_placeholder, wording};
 ghost use Rattle.fields.specs.Wordings.{fixed_text, Tells};
 ghost use Rattle.fields.specs.Worded.{Worded, WordedAnywhere, Compares};
 
-use comparisons::{Compared, comparison_in, is_closed};
+use comparisons::{Compared, comparison_in};
 use record::levels::{level_of, source_of};
 use record::marks::{has_file, has_module, has_serial};
 use record::{Level, Name, Places, Source};
@@ -60,20 +60,14 @@ pub fn wording_of(d: &[u8], p: Places, m: LogMetadata) -> Wording
     }
 }
 
-// The comparison that a record's message is, by its places: "Take it over for device messages". The end of a message is looked at here, so that all others
-// are told without a call.
+// The comparison that a record's message is, by its places: "Take it over for device messages".
 pub fn comparison_of(d: &[u8], p: Places) -> Compared
     requires { PlacesWithin (length d.now) p }
     ensures { Compares d.now p result }
 {
     let source = source_of(p.source);
     match source {
-        Source::Defmt => {
-            if is_closed(d, p.message_from, p.message_to) {
-                return comparison_in(d, p.message_from, p.message_to);
-            }
-            Compared::Nothing
-        }
+        Source::Defmt => comparison_in(d, p.message_from, p.message_to),
         Source::Host => Compared::Nothing,
     }
 }

@@ -1,4 +1,3 @@
 pub mod Cutting
-pub mod Naming
 pub mod Wordings
 pub mod Fields

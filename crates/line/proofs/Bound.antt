@@ -54,15 +54,15 @@ default_narrow ModulePath = omega arith
 default_narrow Timestamp = omega arith
 default_narrow HeadSerial = omega arith
 
-pub specifier_narrow : (l : Level) (m : LogMetadata) (f : LogFormat) → Narrow f.width → (specifier_format l m f).width ≤ 512
+specifier_narrow : (l : Level) (m : LogMetadata) (f : LogFormat) → Narrow f.width → (specifier_format l m f).width ≤ 512
 unfolding format_for
 specifier_narrow l m f h = width_narrow (default_width m) f.width (default_narrow m) h
 
-pub group_narrow : (l : Level) (f : LogFormat) → Narrow f.width → (group_format l f).width ≤ 512
+group_narrow : (l : Level) (f : LogFormat) → Narrow f.width → (group_format l f).width ≤ 512
 unfolding format_for
 group_narrow l f h = width_narrow 0 f.width (omega arith) h
 
-pub part_small : (i j : ℕ) (t : List ℕ) → length (part i j t) ≤ length t
+part_small : (i j : ℕ) (t : List ℕ) → length (part i j t) ≤ length t
 part_small i j t = omega (arith, length-take (j - i) (drop i t), length-drop i t)
 
 swap : (a b : ℕ) → a * (16 * b) ≡ 16 * (a * b)

@@ -14,7 +14,7 @@ use Rattle.segments.proofs.Chains.{back_below, chain_none, chain_step, segment_t
 use Rattle.segments.proofs.Joining.{sizes_and_then}
 
 -- a segment counts itself
-pub size_least : (x : LogSegment) → 1 ≤ size x
+size_least : (x : LogSegment) → 1 ≤ size x
 unfolding size
 size_least (text i j) = omega arith
 size_least (specifier m f) = omega arith
@@ -22,7 +22,7 @@ size_least (group s f) = omega arith
 
 module _ (cells : List ℕ) where
   -- the segments back from a link that isn't 0: the last, and those back from there
-  pub sizes_step : (m : ℕ) → sizes (chain_at cells (m + 1)) ≡ sizes (chain_at cells (back cells m)) + size (segment_at cells m)
+  sizes_step : (m : ℕ) → sizes (chain_at cells (m + 1)) ≡ sizes (chain_at cells (back cells m)) + size (segment_at cells m)
   sizes_step m = ap sizes (chain_step cells m) ∙ sizes_and_then (chain_at cells (back cells m)) (segment_at cells m)
 
   sizes_least : (l : ℕ) → 0 < l → 1 ≤ sizes (chain_at cells l)
@@ -30,7 +30,7 @@ module _ (cells : List ℕ) where
   sizes_least (suc m) h =
       omega (arith, ap (λ (l : ℕ). sizes (chain_at cells l)) (let e : suc m ≡ m + 1 = omega arith in e), sizes_step m, size_least (segment_at cells m))
 
-  pub sizes_none : sizes (chain_at cells 0) ≡ 0
+  sizes_none : sizes (chain_at cells 0) ≡ 0
   unfolding sizes
   sizes_none = ap sizes (chain_none cells)
 

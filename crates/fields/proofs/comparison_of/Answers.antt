@@ -1,4 +1,4 @@
--- `fields::comparison_of` meets its contract: a host's message is no comparison, nor is one that ends otherwise. Assumes nothing.
+-- `fields::comparison_of` meets its contract: a host's message is no comparison. Assumes nothing.
 use borrow.Author.Rules.{rules}
 use mathlib.Core.Path.{◌≡◌, refl, sym, ap, ◌∙◌}
 use mathlib.Core.List.{List}
@@ -6,7 +6,6 @@ use Prim.Native.Nat.{ℕ}
 use Rattle.buffer.specs.Table.{none}
 use Rattle.buffer.specs.Bytes.{part}
 use Rattle.comparisons.specs.Comparisons.{comparison}
-use Rattle.comparisons.proofs.Closing.{not_closed}
 use Rattle.comparisons.specs.Places.{layout_by, layout_for}
 use Rattle.comparisons.specs.declared.Compared.TheVariants.{Nothing}
 use Rattle.record.specs.declared.Source.{Source}
@@ -38,18 +37,11 @@ module _ (d : List ℕ) (p : Places) where
   unfolding record_of laid_by
   device_some e = ap (λ (q : Source). compared_from q (part p.message_from p.message_to d)) e ∙ from_device (part p.message_from p.message_to d)
 
-pub returns-then-is_closed : goal.returns-then-is_closed
-returns-then-is_closed c =
+pub returns-in-Defmt : goal.returns-in-Defmt
+returns-in-Defmt c =
     let d = c.args.d.now in
     let e = device_some d c.args.p (sym c.source_of-source.ensures ∙ c.in-Defmt.is) in
     record { laid = c.comparison_in.ensures.0 ∙ sym (ap layout_for e); within = c.comparison_in.ensures.1 }
-
-pub returns-else-is_closed : goal.returns-else-is_closed
-returns-else-is_closed c =
-    let d = c.args.d.now in
-    let e = device_some d c.args.p (sym c.source_of-source.ensures ∙ c.in-Defmt.is) in
-    let n = not_closed _ (sym c.is_closed.ensures ∙ c.if-is_closed.false) in
-    record { laid = nothing_laid d c.args.p.message_from ∙ sym (ap layout_for (e ∙ n)); within = tt }
 
 pub returns-in-Host : goal.returns-in-Host
 returns-in-Host c =

@@ -1,4 +1,0 @@
-pub mod Rooms
-pub mod Calls
-pub mod Sums
-pub mod Computing
