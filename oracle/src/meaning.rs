@@ -60,19 +60,17 @@ fn sorted(folder: &Path) -> io::Result<Vec<String>> {
 fn statement(picked: &[&Case], crates: &[String]) -> String {
     let mut text = String::from(
         "-- The meaning, computed on answers of the crate.
-use Prim.Native.Nat.{ℕ}
-use mathlib.Core.List.{List, [], _∷_}
-use mathlib.Core.Path.{_≡_, refl}
-use Rattle·refusals.specs.declared.Refusal.{Refusal}
-use Rattle·answer.specs.Answers.{Outcome, refused}
-use Rattle·outcomes.specs.Program.{output, sessionText}
+use Rattle.std.specs.Prelude.{ℕ, ◌≡◌, refl, List, [], ◌∷◌}
+use Rattle.refusals.specs.declared.Refusal.{Refusal}
+use Rattle.answer.specs.Answers.{Outcome, refused}
+use Rattle.outcomes.specs.Program.{output, session_text}
 ",
     );
     for krate in crates {
-        writeln!(text, "use Rattle·{krate}.specs.Computing as {krate}-computing").unwrap();
+        writeln!(text, "use Rattle.{krate}.specs.Computing as {krate}_computing").unwrap();
     }
-    let names: Vec<String> = crates.iter().map(|krate| format!("{krate}-computing.computes")).collect();
-    for (list, of, one) in [("outputs", "(List ℕ)", "output"), ("outcomes", "Outcome", "sessionText")] {
+    let names: Vec<String> = crates.iter().map(|krate| format!("{krate}_computing.computes")).collect();
+    for (list, of, one) in [("outputs", "(List ℕ)", "output"), ("outcomes", "Outcome", "session_text")] {
         writeln!(
             text,
             "
@@ -99,9 +97,9 @@ fn compute(text: &mut String, list: &str, cases: &[(&[u8], String)]) {
         write!(
             text,
             "
-{list}-{i} : {list} ({} ∷ []) ≡ {} ∷ []
+{list}_{i} : {list} ({} ∷ []) ≡ {} ∷ []
 unfolding {list}
-{list}-{i} = refl
+{list}_{i} = refl
 ",
             sheets.join(" ∷ "),
             said.join(" ∷ ")

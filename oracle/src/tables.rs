@@ -119,11 +119,19 @@ fn with_list(text: &str, table: &Table) -> Option<String> {
     between(text, table.before, "∷ []", &lines.join("∷ "))
 }
 
-/// Where each range begins and the code point after it, by turns; how many they are stands in the type.
+/// Where each range begins and the code point after it, by turns; how many they are stands in the type. Laid out as `rt fmt`
+/// does.
 fn with_ends(text: &str, ranges: &[Range]) -> Option<String> {
-    let ends: String =
-        ranges.iter().map(|(first, last)| format!("    0x{first:X},\n    0x{:X},\n", last + 1)).collect();
-    between(text, "const ENDS: [u32; ", "];", &format!("{}] = [\n{ends}", 2 * ranges.len()))
+    const WIDTH: usize = 99;
+    let mut lines = vec![String::from("   ")];
+    for end in ranges.iter().flat_map(|(first, last)| [*first, last + 1]) {
+        let end = format!(" 0x{end:X},");
+        if lines.last()?.len() + end.len() > WIDTH {
+            lines.push(String::from("   "));
+        }
+        lines.last_mut()?.push_str(&end);
+    }
+    between(text, "const ENDS: [u32; ", "];", &format!("{}] = [\n{}\n", 2 * ranges.len(), lines.join("\n")))
 }
 
 /// The text with this in place of what stands between the two marks.

@@ -2,7 +2,7 @@
 use Prim.Native.Nat.{ℕ}
 use mathlib.Core.Path.{◌≡◌, refl, sym, ap, subst, ◌∙◌}
 use mathlib.Core.List.{List, [], ◌∷◌}
-use mathlib.Core.Logic.{⊎_elim}
+
 use native.Mathlib.Omega.{arith}
 use lib.ListN.{length}
 use Rattle.buffer.specs.Buffer.{written}
@@ -10,6 +10,7 @@ use Rattle.segments.specs.Pool.{chain_at}
 use Rattle.record.specs.declared.Places.{Places}
 use Rattle.record.specs.Records.{Record}
 use Rattle.comparisons.specs.declared.Spans.{Spans}
+use Rattle.comparisons.specs.declared.Compared.{Compared}
 use Rattle.comparisons.specs.declared.Compared.TheVariants.{Nothing, At}
 use Rattle.fields.specs.Worded.{Compares}
 use Rattle.leaves.specs.Places.{row_length, places_of, spans_of, has_comparison, compared_by}
@@ -18,6 +19,7 @@ use Rattle.answer.proofs.Messages.{from_numbers_lem}
 use Rattle.answer.proofs.Answering.{writable, record_by_lem}
 use borrow.Author.Rules.{rules}
 use Rattle.answer.proofs.put_segments.Goals as goal
+use Rattle.answer.proofs.put_segments.Goals.{in-At, in_default}
 
 -- the row of a record's numbers, with those of a comparison
 abbrev row : Places → Spans → List ℕ
@@ -52,15 +54,19 @@ told_none : (d : List ℕ) (p : Places) → Compares d p Nothing → Told d p (r
 unfolding places_of compared_by has_comparison spans_of
 told_none d p k = record { long = refl; places = refl; compares = k }
 
+told_rest : (d : List ℕ) (p : Places) (c : Compared) → Compares d p c → ((x : Spans) → c ≡ At x → ⊥) → Told d p (row p none)
+told_rest d p (At x) k h = absurd (h x refl)
+told_rest d p Nothing k h = told_none d p k
+
 pub slice_bounds-write_line-end : goal.slice_bounds-write_line-end
 slice_bounds-write_line-end c =
     let told : Told c.args.d.now c.args.p c.match-c.numbers =
     let d = c.args.d.now in
     let p = c.args.p in
-    ⊎_elim
-    (λ w. subst (Told d p) (sym w.5) (told_at d p w.1.given.0.0 (subst (Compares d p) w.1.given.1 c.requires.1)))
-    (λ w. subst (Told d p) (sym w.2) (told_none d p (subst (Compares d p) w.1.given.1 c.requires.1)))
-    c.match-c.branch in
+    elim c.match-c.branch [
+      | in-At w ↦ subst (Told d p) (sym w.numbers-is) (told_at d p w.in-At.x (subst (Compares d p) w.in-At.is c.requires.1))
+      | in_default w ↦ subst (Told d p) (sym w.numbers-is) (told_rest d p c.args.c c.requires.1 w.in_default.not-At)
+    ] in
     sym told.long
 
 pub write_line-requires : goal.write_line-requires
@@ -68,10 +74,10 @@ write_line-requires c =
     let told : Told c.args.d.now c.args.p c.match-c.numbers =
     let d = c.args.d.now in
     let p = c.args.p in
-    ⊎_elim
-    (λ w. subst (Told d p) (sym w.5) (told_at d p w.1.given.0.0 (subst (Compares d p) w.1.given.1 c.requires.1)))
-    (λ w. subst (Told d p) (sym w.2) (told_none d p (subst (Compares d p) w.1.given.1 c.requires.1)))
-    c.match-c.branch in
+    elim c.match-c.branch [
+      | in-At w ↦ subst (Told d p) (sym w.numbers-is) (told_at d p w.in-At.x (subst (Compares d p) w.in-At.is c.requires.1))
+      | in_default w ↦ subst (Told d p) (sym w.numbers-is) (told_rest d p c.args.c c.requires.1 w.in_default.not-At)
+    ] in
     let k = told in
     writable c.args.cells.now c.args.t.now c.args.d.now c.args.n c.args.p c.match-c.numbers c.requires.0 k.places (omega (arith, k.long)) k.compares
 
@@ -80,10 +86,10 @@ returns c =
     let told : Told c.args.d.now c.args.p c.match-c.numbers =
     let d = c.args.d.now in
     let p = c.args.p in
-    ⊎_elim
-    (λ w. subst (Told d p) (sym w.5) (told_at d p w.1.given.0.0 (subst (Compares d p) w.1.given.1 c.requires.1)))
-    (λ w. subst (Told d p) (sym w.2) (told_none d p (subst (Compares d p) w.1.given.1 c.requires.1)))
-    c.match-c.branch in
+    elim c.match-c.branch [
+      | in-At w ↦ subst (Told d p) (sym w.numbers-is) (told_at d p w.in-At.x (subst (Compares d p) w.in-At.is c.requires.1))
+      | in_default w ↦ subst (Told d p) (sym w.numbers-is) (told_rest d p c.args.c c.requires.1 w.in_default.not-At)
+    ] in
     let e = record_by_lem c.args.cells.now c.args.t.now c.args.d.now c.args.n c.args.p c.match-c.numbers c.requires.0 told.places in
     let x = ap (λ (r : Record). segments_text c.args.s c.args.t.now r (chain_at c.args.cells.now c.args.n)) e in
     (c.write_line.ensures.0 ∙ ap length x, c.write_line.ensures.1 ∙ ap (written c.args.out.now) x)

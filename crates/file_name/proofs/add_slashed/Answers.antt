@@ -27,15 +27,6 @@ slice_bounds-add-count c =
     let w = within_at c.loop-from.k c.args.e c.in-At.from c.in-At.to c.next_component-c.result c.in-At.is c.next_component-c.ensures.1 in
     search rules
 
-pub slice-bounds-add-start : goal.slice-bounds-add-start
-slice-bounds-add-start c =
-    let w = within_at c.loop-from.k c.args.e c.in-At.from c.in-At.to c.next_component-c.result c.in-At.is c.next_component-c.ensures.1 in
-    search rules
-
-pub slice-bounds-add-end : goal.slice-bounds-add-end
-slice-bounds-add-end c =
-    let w = within_at c.loop-from.k c.args.e c.in-At.from c.in-At.to c.next_component-c.result c.in-At.is c.next_component-c.ensures.1 in
-    search rules
 
 pub add-b-requires-in-loop-from : goal.add-b-requires-in-loop-from
 add-b-requires-in-loop-from c = (

@@ -28,15 +28,6 @@ slice_bounds-put-count c =
     let w = within_at c.args.i c.args.e c.in-At.from c.in-At.to c.first_shown-first.result c.in-At.is c.first_shown-first.ensures.1 in
     search rules
 
-pub slice-bounds-put-start : goal.slice-bounds-put-start
-slice-bounds-put-start c =
-    let w = within_at c.args.i c.args.e c.in-At.from c.in-At.to c.first_shown-first.result c.in-At.is c.first_shown-first.ensures.1 in
-    search rules
-
-pub slice-bounds-put-end : goal.slice-bounds-put-end
-slice-bounds-put-end c =
-    let w = within_at c.args.i c.args.e c.in-At.from c.in-At.to c.first_shown-first.result c.in-At.is c.first_shown-first.ensures.1 in
-    search rules
 
 pub put-y-requires : goal.put-y-requires
 put-y-requires c = omega (arith, name_room c.args.d.now c.args.i c.args.e c.args.n c.first_shown-first.result c.first_shown-first.ensures.0 c.in-At.from c.in-At.to c.in-At.is, c.requires.d_in_bounds)

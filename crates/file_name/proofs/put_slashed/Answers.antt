@@ -29,15 +29,6 @@ slice_bounds-put-count c =
     let w = within_at c.loop-from.k c.args.e c.in-At.from c.in-At.to c.next_component-c.result c.in-At.is c.next_component-c.ensures.1 in
     search rules
 
-pub slice-bounds-put-start : goal.slice-bounds-put-start
-slice-bounds-put-start c =
-    let w = within_at c.loop-from.k c.args.e c.in-At.from c.in-At.to c.next_component-c.result c.in-At.is c.next_component-c.ensures.1 in
-    search rules
-
-pub slice-bounds-put-end : goal.slice-bounds-put-end
-slice-bounds-put-end c =
-    let w = within_at c.loop-from.k c.args.e c.in-At.from c.in-At.to c.next_component-c.result c.in-At.is c.next_component-c.ensures.1 in
-    search rules
 
 pub put-y-requires-in-loop-from : goal.put-y-requires-in-loop-from
 put-y-requires-in-loop-from c =

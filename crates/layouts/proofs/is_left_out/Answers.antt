@@ -2,24 +2,21 @@
 use borrow.Author.Rules.{rules}
 use mathlib.Core.Path.{◌≡◌, refl, sym, ap}
 use mathlib.Core.Bool.{false}
-use mathlib.Core.List.{[], ◌∷◌}
-use denote.Enum.Declared.{tag_of}
-use types.Run.{OneOf, miss}
+use Prim.Native.Nat.{ℕ}
 use Rattle.layouts.specs.declared.text.Text.{Text}
 use Rattle.layouts.specs.declared.text.Text.TheVariants.{Head, Part, Fixed}
-use Rattle.layouts.specs.contracts.text.Text.{the_type}
 use Rattle.layouts.specs.Runs.{is_left_out}
 use Rattle.layouts.proofs.is_left_out.Goals as goal
 
 -- what isn't a part isn't left out
-no_part : (x : Text) → OneOf (0 ∷ 2 ∷ []) (tag_of the_type x) → false ≡ is_left_out x
+no_part : (x : Text) → ((i j : ℕ) → x ≡ Part i j → ⊥) → false ≡ is_left_out x
 unfolding is_left_out
 no_part (Head i j) h = refl
-no_part (Part i j) h = absurd (miss (0 ∷ 2 ∷ []) 1 tt h)
+no_part (Part i j) h = absurd (h i j refl)
 no_part (Fixed i j) h = refl
 
 pub returns-in_default : goal.returns-in_default
-returns-in_default c = no_part _ c.in_default.in_default-own.keys2
+returns-in_default c = no_part _ c.in_default.not-Part
 
 pub returns : goal.returns
 unfolding is_left_out

@@ -11,16 +11,6 @@ use Rattle.wording.proofs.add_wording.Goals as goal
 pub slice_bounds-add-count : goal.slice_bounds-add-count
 slice_bounds-add-count c = (subst (WordingWithin (length c.args.d.now)) c.in-Part.is c.requires.wording_within).0
 
-pub slice-bounds-add-start : goal.slice-bounds-add-start
-slice-bounds-add-start c =
-    let h = subst (WordingWithin (length c.args.d.now)) c.in-Part.is c.requires.wording_within in
-    search rules
-
-pub slice-bounds-add-end : goal.slice-bounds-add-end
-slice-bounds-add-end c =
-    let h = subst (WordingWithin (length c.args.d.now)) c.in-Part.is c.requires.wording_within in
-    search rules
-
 pub add-requires : goal.add-requires
 unfolding bytes_of
 add-requires c = (c.requires.small.0, subst (λ (w : Wording). c.args.a.len + length (bytes_of w c.args.d.now) < 2 ^ 58) c.in-Part.is c.requires.small.1)

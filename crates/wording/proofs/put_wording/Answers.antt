@@ -11,16 +11,6 @@ use Rattle.wording.proofs.put_wording.Goals as goal
 pub slice_bounds-put-count : goal.slice_bounds-put-count
 slice_bounds-put-count c = (subst (WordingWithin (length c.args.d.now)) c.in-Part.is c.requires.wording_within).0
 
-pub slice-bounds-put-start : goal.slice-bounds-put-start
-slice-bounds-put-start c =
-    let h = subst (WordingWithin (length c.args.d.now)) c.in-Part.is c.requires.wording_within in
-    search rules
-
-pub slice-bounds-put-end : goal.slice-bounds-put-end
-slice-bounds-put-end c =
-    let h = subst (WordingWithin (length c.args.d.now)) c.in-Part.is c.requires.wording_within in
-    search rules
-
 pub put-requires : goal.put-requires
 unfolding bytes_of
 put-requires c = subst (λ (w : Wording). c.args.at + length (bytes_of w c.args.d.now) ≤ length c.args.out.now) c.in-Part.is c.requires.d_in_bounds

@@ -19,16 +19,6 @@ add_head-requires c =
 pub slice_bounds-add-count : goal.slice_bounds-add-count
 slice_bounds-add-count c = (subst (TextWithin (length c.args.d.now)) c.in-Part.is c.requires.text_within).0
 
-pub slice-bounds-add-start : goal.slice-bounds-add-start
-slice-bounds-add-start c =
-    let h = subst (TextWithin (length c.args.d.now)) c.in-Part.is c.requires.text_within in
-    search rules
-
-pub slice-bounds-add-end : goal.slice-bounds-add-end
-slice-bounds-add-end c =
-    let h = subst (TextWithin (length c.args.d.now)) c.in-Part.is c.requires.text_within in
-    search rules
-
 pub add-requires : goal.add-requires
 unfolding text_bytes
 add-requires c = (c.requires.small.0, subst (λ (x : Text). c.args.a.len + length (text_bytes x c.args.d.now) < 2 ^ 58) c.in-Part.is c.requires.small.1)

@@ -19,16 +19,6 @@ put_head-requires c =
 pub slice_bounds-put-count : goal.slice_bounds-put-count
 slice_bounds-put-count c = (subst (TextWithin (length c.args.d.now)) c.in-Part.is c.requires.text_within).0
 
-pub slice-bounds-put-start : goal.slice-bounds-put-start
-slice-bounds-put-start c =
-    let h = subst (TextWithin (length c.args.d.now)) c.in-Part.is c.requires.text_within in
-    search rules
-
-pub slice-bounds-put-end : goal.slice-bounds-put-end
-slice-bounds-put-end c =
-    let h = subst (TextWithin (length c.args.d.now)) c.in-Part.is c.requires.text_within in
-    search rules
-
 pub put-requires : goal.put-requires
 unfolding text_bytes
 put-requires c = subst (λ (x : Text). c.args.at + length (text_bytes x c.args.d.now) ≤ length c.args.out.now) c.in-Part.is c.requires.d_in_bounds

@@ -1,26 +1,23 @@
 -- `rows::segment::is_bare_field` meets its contract. Assumes nothing.
 use mathlib.Core.Path.{◌≡◌, refl, sym, ap, ◌∙◌}
-use mathlib.Core.List.{List, [], ◌∷◌}
+use mathlib.Core.List.{List}
 use mathlib.Core.Bool.{Bool, true, false, ◌||◌}
 use Prim.Native.Nat.{ℕ}
 use borrow.Author.Rules.{rules}
-use types.Run.{OneOf, miss}
-use denote.Enum.Declared.{tag_of}
 use Rattle.words.specs.declared.LogMetadata.{LogMetadata}
 use Rattle.record.specs.declared.Source.{Source}
-use Rattle.words.specs.contracts.LogMetadata.{the_type}
 use Rattle.leaves.specs.Places.{has_comparison, source_by}
 use Rattle.rows.specs.Texts.{is_host, bare_by, bare_from}
 use Rattle.rows.proofs.segment.is_bare_field.Goals as goal
 
 -- the other arm: each of the other variants
-not_log : (q : Bool) (m : LogMetadata) → OneOf (0 ∷ 1 ∷ 2 ∷ 3 ∷ 5 ∷ 6 ∷ 7 ∷ 8 ∷ []) (tag_of the_type m) → false ≡ bare_from q m
+not_log : (q : Bool) (m : LogMetadata) → (m ≡ LogMetadata.Log → ⊥) → false ≡ bare_from q m
 unfolding bare_from
 not_log q LogMetadata.CrateName h = refl
 not_log q (LogMetadata.FileName n) h = refl
 not_log q LogMetadata.FilePath h = refl
 not_log q LogMetadata.LineNumber h = refl
-not_log q LogMetadata.Log h = absurd (miss (0 ∷ 1 ∷ 2 ∷ 3 ∷ 5 ∷ 6 ∷ 7 ∷ 8 ∷ []) 4 tt h)
+not_log q LogMetadata.Log h = absurd (h refl)
 not_log q LogMetadata.LogLevel h = refl
 not_log q LogMetadata.ModulePath h = refl
 not_log q LogMetadata.Timestamp h = refl
@@ -35,7 +32,7 @@ unfolding bare_from bare_by is_host
 bare_device n m b e q h = h ∙ sym (ap (bare_from (bare_by n)) e ∙ ap (λ (x : Source). is_host x || has_comparison n) q)
 
 pub returns-in_default : goal.returns-in_default
-returns-in_default c = not_log (bare_by c.args.numbers.now) c.args.m c.in_default.keys2
+returns-in_default c = not_log (bare_by c.args.numbers.now) c.args.m c.in_default.not-Log
 
 pub returns-in_default-source : goal.returns-in_default-source
 unfolding source_by

@@ -5,54 +5,6 @@ use Rattle.fields.specs.Wordings.{fixed_text}
 use Rattle.wording.specs.Table.{table}
 use Rattle.wording.proofs.fixed.place_of.Goals as goal
 
-pub enum_told-1 : goal.enum_told-1
-unfolding table
-enum_told-1 c = c.in-Trace.keys1
-
-pub enum_told-in-Crate : goal.enum_told-in-Crate
-unfolding table
-enum_told-in-Crate c = c.in-Trace.keys2
-
-pub enum_told-in-File : goal.enum_told-in-File
-unfolding table
-enum_told-in-File c = c.in-Trace.keys3
-
-pub enum_told-in-ModulePath : goal.enum_told-in-ModulePath
-unfolding table
-enum_told-in-ModulePath c = c.in-Trace.keys4
-
-pub enum_told-in-Time : goal.enum_told-in-Time
-unfolding table
-enum_told-in-Time c = c.in-Trace.keys5
-
-pub enum_told-in-Head : goal.enum_told-in-Head
-unfolding table
-enum_told-in-Head c = c.in-Trace.keys6
-
-pub enum_told-in-Error : goal.enum_told-in-Error
-unfolding table
-enum_told-in-Error c = c.in-Trace.keys7
-
-pub enum_told-in-Warn : goal.enum_told-in-Warn
-unfolding table
-enum_told-in-Warn c = c.in-Trace.keys8
-
-pub enum_told-in-Info : goal.enum_told-in-Info
-unfolding table
-enum_told-in-Info c = c.in-Trace.keys9
-
-pub enum_told-in-Debug : goal.enum_told-in-Debug
-unfolding table
-enum_told-in-Debug c = c.in-Trace.keys10
-
-pub enum_told-in-Trace : goal.enum_told-in-Trace
-unfolding table
-enum_told-in-Trace c = c.in-Trace.keys11
-
-pub returns-in-Empty : goal.returns-in-Empty
-unfolding table
-returns-in-Empty c = record { ordered = search rules; within = search rules; text = ap fixed_text (sym c.in-Empty.is) }
-
 pub returns-in-Crate : goal.returns-in-Crate
 unfolding table
 returns-in-Crate c = record { ordered = search rules; within = search rules; text = ap fixed_text (sym c.in-Crate.is) }
