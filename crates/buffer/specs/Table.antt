@@ -1,5 +1,5 @@
 -- Tables of words: a word and what it stands for, one to a line. Assumes nothing.
-use Rattle.std.specs.Prelude.{ℕ, ◌≡◌, refl, Bool, true, false, List, [], ◌∷◌}
+use Rattle.std.specs.Prelude.{ℕ, true, false, List, [], ◌∷◌}
 use Prim.Native.String.{String}
 use Rattle.buffer.specs.Bytes.{bytes, same}
 

@@ -1,5 +1,5 @@
 -- The eight built-in templates (document 01, "Built-in templates"; in the crate: `DefaultStyle` and `OneLineStyle`). Assumes nothing.
-use Rattle.std.specs.Prelude.{ℕ, Bool, true, false, List, [], ◌∷◌, ◌++◌}
+use Rattle.std.specs.Prelude.{ℕ, Bool, true, false, List, ◌++◌}
 use Rattle.buffer.specs.Bytes.{bytes}
 use Rattle.builtin.specs.declared.Style.{Style}
 use Rattle.builtin.specs.declared.Style.TheVariants.{Default, OneLine}

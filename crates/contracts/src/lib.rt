@@ -1,3 +1,2 @@
 // That the contracts settle everything: no code.
 #![tactic(auto)]
-

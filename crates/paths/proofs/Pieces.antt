@@ -10,7 +10,7 @@ use lib.ListN.{length, take, drop, get_or}
 use lib.Seq.{append_snoc, drop-nil}
 use borrow.Author.Tests.{eq-eqb, ne_eqb, eqb-true, eqb-false}
 use Rattle.buffer.specs.Bytes.{bytes, part, same}
-use Rattle.buffer.specs.Table.{Maybe, none, some}
+use Rattle.buffer.specs.Table.{none, some}
 use Rattle.buffer.proofs.Sameness.{both_true}
 use Rattle.buffer.proofs.Parts.{part_step, part_snoc, part_end}
 use Rattle.paths.specs.declared.Component.{Component}

@@ -1,14 +1,13 @@
 -- Laws of the places where components stand. Assumes nothing.
 use Prim.Native.Nat.{ℕ, zero, suc, ◌+◌, ◌-◌, ◌<◌, ◌≤◌}
 use mathlib.Core.Path.{◌≡◌, refl, ap, sym, ◌∙◌}
-use mathlib.Core.Bool.{Bool, true, false, ◌||◌}
+use mathlib.Core.Bool.{Bool, true, false}
 use mathlib.Core.List.{List}
 use native.Mathlib.Omega.{arith}
 use native.Mathlib.Decide.{dec_lt}
-use lib.Dec.{eqb}
 use lib.ListN.{length, get_or}
 use borrow.Author.Tests.{eq-eqb, ne_eqb}
-use Rattle.buffer.specs.Bytes.{byte, part}
+use Rattle.buffer.specs.Bytes.{part}
 use Rattle.paths.specs.declared.Component.{Component}
 use Rattle.paths.specs.Paths.{is_dropped, starts_with_dot}
 use Rattle.paths.specs.Remaining.{end_from, next_from, first_from, after_from}

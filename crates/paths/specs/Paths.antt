@@ -1,5 +1,5 @@
 -- Paths by components, and the crate of a module path (document 01, "Building a line"; document 02, E2). Assumes nothing.
-use Rattle.std.specs.Prelude.{ℕ, zero, suc, ◌+◌, ◌-◌, ◌≡◌, refl, Bool, true, false, ◌||◌, ◌&&◌, List, [], ◌∷◌, ◌++◌, eqb, length, drop}
+use Rattle.std.specs.Prelude.{ℕ, ◌-◌, ◌≡◌, refl, Bool, true, false, ◌||◌, ◌&&◌, List, [], ◌∷◌, ◌++◌, eqb, length, drop}
 use Rattle.buffer.specs.Bytes.{byte, bytes, same}
 use Rattle.buffer.specs.Table.{Maybe, none, some}
 

@@ -1,5 +1,5 @@
 -- A character of UTF-8 by its bytes: how many there are, and its code point (Unicode's table 3-6, read backwards). Assumes nothing.
-use Rattle.std.specs.Prelude.{ℕ, ◌+◌, ◌*◌, ◌%◌, ◌≡◌, refl, true, false, List, [], ◌∷◌, ltb}
+use Rattle.std.specs.Prelude.{ℕ, ◌+◌, ◌*◌, ◌%◌, ◌≡◌, refl, true, false, [], ◌∷◌, ltb}
 
 -- how many bytes a character has, by its first byte
 unfoldable pub size_of : ℕ → ℕ

@@ -1,7 +1,7 @@
 -- Laws of `run`, what a text leaves to come. Assumes nothing.
 use mathlib.Core.Path.{◌≡◌, refl}
 use mathlib.Core.List.{List, [], ◌∷◌, ◌++◌}
-use Prim.Native.Nat.{ℕ, ◌+◌, ◌≤◌}
+use Prim.Native.Nat.{ℕ, ◌≤◌}
 use Rattle.utf8.specs.Utf8.{Awaited, awaited, broken, step, run}
 use Rattle.utf8.proofs.Leading.{leads_ascii}
 

@@ -1,7 +1,7 @@
 -- The wide characters, one by one: the run over the bytes of a character counts it where it is wide, whatever came before. Assumes nothing.
-use Prim.Native.Nat.{ℕ, suc, ◌+◌, ◌-◌, ◌*◌, ◌/◌, ◌%◌, ◌≤◌, ◌<◌}
-use mathlib.Core.Path.{◌≡◌, refl, ap, sym, ◌∙◌}
-use mathlib.Core.Bool.{Bool, true, false}
+use Prim.Native.Nat.{ℕ, suc, ◌+◌, ◌-◌, ◌/◌, ◌%◌, ◌≤◌, ◌<◌}
+use mathlib.Core.Path.{◌≡◌, ap, sym, ◌∙◌}
+use mathlib.Core.Bool.{Bool}
 use mathlib.Core.List.{List, [], ◌∷◌, ◌++◌}
 use native.Mathlib.Nat.{add-zero}
 use native.Mathlib.Omega.{arith}
@@ -10,11 +10,11 @@ use borrow.Author.Tests.{lt-ltb, le-ltb}
 use Rattle.buffer.specs.Bytes.{character, onward}
 use Rattle.characters.specs.Characters.{begins, chars, one_if}
 use Rattle.characters.proofs.Counting.{begins_below, begins_above, begins_trail, chars_append}
-use Rattle.points.specs.Decoding.{size_of, with_six, point}
+use Rattle.points.specs.Decoding.{size_of, with_six}
 use Rattle.points.proofs.Decoded.{size_two, size_three, size_four, point_two, point_three, point_four, decoded_two, decoded_three, decoded_four}
 use Rattle.widths.specs.declared.Rule.{Rule}
 use Rattle.widths.specs.declared.Wides.{Wides}
-use Rattle.widths.specs.Widths.{is_wide, leading, begun_by, none_begun, gone_on, advanced, ran, places, count}
+use Rattle.widths.specs.Widths.{is_wide, leading, none_begun, gone_on, advanced, ran, places, count}
 use Rattle.widths.proofs.Running.{leading_two, leading_three, leading_four, advanced_trail, advanced_above, advanced_ascii, ran_append, ran_raised, raised}
 use Rattle.widths.proofs.Stretches.{narrow}
 

@@ -1,5 +1,5 @@
 -- Laws of the run over a text that counts its wide characters. Assumes nothing.
-use Prim.Native.Nat.{ℕ, zero, suc, ◌+◌, ◌-◌, ◌*◌, ◌%◌, ◌<◌, ◌≤◌}
+use Prim.Native.Nat.{ℕ, zero, suc, ◌+◌, ◌-◌, ◌%◌, ◌<◌, ◌≤◌}
 use mathlib.Core.Path.{◌≡◌, refl, ap, sym, subst, ◌∙◌}
 use mathlib.Core.Bool.{Bool, true, false}
 use mathlib.Core.List.{List, [], ◌∷◌, ◌++◌}
@@ -15,9 +15,8 @@ use Rattle.characters.specs.Characters.{begins, chars, one_if}
 use Rattle.characters.proofs.Counting.{begins_most, chars_length}
 use Rattle.points.specs.Decoding.{size_of, with_six}
 use Rattle.points.proofs.Decoded.{size_one, size_two, size_three, size_four}
-use Rattle.widths.specs.declared.Pending.{Pending}
 use Rattle.widths.specs.declared.Wides.{Wides}
-use Rattle.widths.specs.Widths.{is_wide, idle, leading, begun_by, none_begun, gone_on, advanced, ran}
+use Rattle.widths.specs.Widths.{is_wide, leading, begun_by, none_begun, gone_on, advanced, ran}
 use Rattle.widths.specs.Fitting.{FewBits, Fits}
 
 -- ---- a first byte

@@ -1,12 +1,11 @@
 -- The table of wide characters: its order, and two stretches of it. Assumes nothing.
-use Prim.Native.Nat.{ℕ, ◌+◌, ◌<◌, ◌≤◌, zero-le}
+use Prim.Native.Nat.{ℕ, ◌<◌, ◌≤◌, zero-le}
 use mathlib.Core.Path.{◌≡◌, refl, sym}
 use mathlib.Core.Bool.{true, false}
-use native.Mathlib.Nat.{lt_of_lt_of_le, le_of_lt}
 use native.Mathlib.Omega.{arith}
 use lib.ListN.{length, get_or}
 use Rattle.points.specs.Ranges.{ends}
-use Rattle.points.specs.Searching.{Rising, UpTo}
+use Rattle.points.specs.Searching.{Rising}
 use Rattle.points.proofs.Order.{rises}
 use Rattle.points.proofs.Halving.{up_to_next, start, down, met}
 use Rattle.points.proofs.Lookup.{among_odd}

@@ -11,7 +11,6 @@ use Rattle.packing.specs.Packing.{Packable}
 use Rattle.answer.proofs.Answering.{answer_passed, buffer_passed, answer_refused, buffer_refused, refusal_unsized, texts_short}
 use Rattle.packing.proofs.Rooms.{packable_in, packable_refused}
 use Rattle.answer.proofs.Counted.{line_counted}
-use borrow.Author.Rules.{rules}
 use Rattle.answer.proofs.answer_record.Goals as goal
 
 pub put_line-requires : goal.put_line-requires

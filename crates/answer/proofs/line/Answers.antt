@@ -1,8 +1,6 @@
 -- `answer::line` meets its contract. Assumes nothing.
 use mathlib.Core.Path.{refl, sym, ap, ◌∙◌}
 use lib.ListN.{length}
-use borrow.Author.Rules.{rules}
-use borrow.Author.Tests.{not-true, not-false}
 use Rattle.refusals.specs.declared.Refusal.{Refusal}
 use Rattle.record.specs.declared.Form.{Form}
 use Rattle.record.specs.Layout.{right_size}

@@ -1,5 +1,4 @@
 -- `answer::put_comparison` meets its contract. Assumes nothing.
-use borrow.Author.Rules.{rules}
 use mathlib.Core.Path.{sym, ◌∙◌}
 use native.Mathlib.Omega.{arith}
 use Rattle.layouts.specs.Runs.{laid_text}

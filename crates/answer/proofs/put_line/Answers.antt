@@ -10,7 +10,6 @@ use Rattle.fields.specs.Worded.{Compares}
 use Rattle.answer.specs.Rooms.{Accepted}
 use Rattle.segments.specs.Pool.{chain_at}
 use Rattle.answer.proofs.Answering.{line_print, line_refused, line_level}
-use borrow.Author.Rules.{rules}
 use Rattle.answer.proofs.put_line.Goals as goal
 
 -- a message of a record that passed its checks isn't long

@@ -4,7 +4,6 @@ use native.Mathlib.Omega.{arith}
 use Rattle.buffer.specs.Bytes.{part}
 use Rattle.buffer.proofs.Parts.{part_length}
 use Rattle.line.proofs.Written.{written_short, written_whole}
-use borrow.Author.Rules.{rules}
 use Rattle.answer.proofs.put_part.Goals as goal
 
 pub returns-then-out-n : goal.returns-then-out-n

@@ -16,7 +16,6 @@ use Rattle.leaves.specs.Places.{row_length, places_of, spans_of, has_comparison,
 use Rattle.rows.specs.Texts.{segments_text}
 use Rattle.answer.proofs.Messages.{from_numbers_lem}
 use Rattle.answer.proofs.Answering.{writable, record_by_lem}
-use borrow.Author.Rules.{rules}
 use Rattle.answer.proofs.put_segments.Goals as goal
 use Rattle.answer.proofs.put_segments.Goals.{in-At, in_default}
 

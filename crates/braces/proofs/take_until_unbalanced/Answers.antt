@@ -1,14 +1,6 @@
 use Rattle.braces.proofs.Closings.{closing_end, closing_opens, closing_here, closing_closes, closing_half, closing_escapes, closing_passes, within_at, within_nowhere, within_half}
-use Rattle.braces.specs.Braces.{closing}
-use borrow.Author.Rules.{rules}
 use native.Mathlib.Omega.{arith}
-use Prim.Native.Nat.{ℕ, zero, suc, ◌+◌, ◌-◌, ◌*◌, ◌≤◌, ◌<◌}
-use mathlib.Core.Path.{◌≡◌, refl, sym, ap, subst, ◌∙◌}
-use mathlib.Core.List.{List, [], ◌∷◌, ◌++◌}
-use mathlib.Core.Bool.{Bool, true, false, not}
-use lib.ListN.{length, get_or}
-use Rattle.braces.proofs.take_until_unbalanced.Reads as reads
-use Rattle.braces.proofs.take_until_unbalanced.Lts as lts
+use mathlib.Core.Path.{refl, sym, ◌∙◌}
 use Rattle.braces.proofs.take_until_unbalanced.Goals as goal
 
 -- src/braces.rt:17:5

@@ -1,7 +1,7 @@
 -- `buffer::fill` meets its contract. The loop's invariant: the buffer is as it was with the bytes so far written. Assumes nothing.
-use Prim.Native.Nat.{ℕ, ◌≤◌, ◌+◌, ◌-◌}
+use Prim.Native.Nat.{ℕ, ◌+◌}
 use native.Mathlib.Omega.{arith}
-use lib.ListN.{length, set, length-set, replicate}
+use lib.ListN.{set, length-set, replicate}
 use mathlib.Core.Path.{◌≡◌, refl, ap, sym, ◌∙◌}
 use mathlib.Core.List.{List}
 use Rattle.buffer.specs.Buffer.{put_at}

@@ -1,12 +1,8 @@
 -- `buffer::fill` meets its contract. The loop's invariant: the buffer is as it was with the bytes so far written. Assumes nothing.
-use Prim.Native.Nat.{ℕ, ◌≤◌, ◌+◌, ◌-◌}
-use native.Mathlib.Omega.{arith}
-use lib.ListN.{length, set, length-set, replicate}
-use mathlib.Core.Path.{◌≡◌, refl, ap, sym, ◌∙◌}
-use mathlib.Core.List.{List}
+use Prim.Native.Nat.{◌≤◌, ◌-◌}
+use lib.ListN.{length, replicate}
+use mathlib.Core.Path.{◌≡◌}
 use Rattle.buffer.specs.Buffer.{put_at}
-use Rattle.buffer.proofs.Writing.{put_nil, fill_next}
-use borrow.Author.Rules.{rules}
 use Rattle.buffer.proofs.fill.Given as goal
 
 abbrev pub invariant-loop-i : goal.invariant-loop-i

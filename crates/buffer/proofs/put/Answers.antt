@@ -1,7 +1,7 @@
 -- `buffer::put` meets its contract. The loop's invariant: the buffer is as it was with the bytes so far written. Assumes nothing.
-use Prim.Native.Nat.{ℕ, ◌≤◌, ◌+◌, ◌-◌}
-use lib.ListN.{length, take, get_or, set, length-set}
-use mathlib.Core.Path.{◌≡◌, refl, ap, sym, ◌∙◌}
+use Prim.Native.Nat.{ℕ, ◌+◌}
+use lib.ListN.{get_or, set, length-set}
+use mathlib.Core.Path.{refl, ap, sym, ◌∙◌}
 use mathlib.Core.List.{List}
 use Rattle.buffer.specs.Buffer.{put_at}
 use Rattle.buffer.proofs.Writing.{put_nil, put_next}

@@ -1,12 +1,8 @@
 -- `buffer::put` meets its contract. The loop's invariant: the buffer is as it was with the bytes so far written. Assumes nothing.
-use Prim.Native.Nat.{ℕ, ◌≤◌, ◌+◌, ◌-◌}
-use lib.ListN.{length, take, get_or, set, length-set}
-use mathlib.Core.Path.{◌≡◌, refl, ap, sym, ◌∙◌}
-use mathlib.Core.List.{List}
+use Prim.Native.Nat.{◌≤◌, ◌-◌}
+use lib.ListN.{length, take}
+use mathlib.Core.Path.{◌≡◌}
 use Rattle.buffer.specs.Buffer.{put_at}
-use Rattle.buffer.proofs.Writing.{put_nil, put_next}
-use lib.Seq.{take_all}
-use borrow.Author.Rules.{rules}
 use Rattle.buffer.proofs.put.Given as goal
 
 abbrev pub invariant-loop-i : goal.invariant-loop-i

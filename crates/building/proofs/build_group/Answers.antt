@@ -1,16 +1,9 @@
 use Rattle.building.proofs.Making.{group_twice, group_bare, group_full, group_told, group_keeps}
 use Rattle.building.proofs.Bounds.{keeps_refused}
 use borrow.Author.Tests.{not-true, not-false}
-use borrow.Author.Rules.{rules}
 use native.Mathlib.Omega.{arith}
-use Prim.Native.Nat.{ℕ, zero, suc, ◌+◌, ◌-◌, ◌*◌, ◌≤◌, ◌<◌}
-use mathlib.Core.Path.{◌≡◌, refl, sym, ap, subst, ◌∙◌}
-use mathlib.Core.List.{List, [], ◌∷◌, ◌++◌}
-use mathlib.Core.Bool.{Bool, true, false, not}
-use lib.ListN.{length, get_or}
-use Rattle.building.proofs.build_group.Reads as reads
-use Rattle.building.proofs.build_group.Lts as lts
-use Rattle.pool.proofs.put_group.Reads as put-group-reads
+use mathlib.Core.Path.{refl, sym, ◌∙◌}
+use mathlib.Core.Bool.{true, false}
 use Rattle.building.proofs.build_group.Goals as goal
 
 -- src/build.rt:68:9

@@ -1,16 +1,8 @@
 use Rattle.building.proofs.Making.{built_words, built_twice, built_named, built_taken, built_several, taken_fitted, nothing_made}
 use Rattle.building.proofs.Bounds.{keeps_refused, keeps_count, fit_keeps, within_refused}
-use borrow.Author.Rules.{rules}
-use native.Mathlib.Omega.{arith}
-use Prim.Native.Nat.{ℕ, zero, suc, ◌+◌, ◌-◌, ◌*◌, ◌≤◌, ◌<◌}
-use mathlib.Core.Path.{◌≡◌, refl, sym, ap, subst, ◌∙◌}
-use mathlib.Core.List.{List, [], ◌∷◌, ◌++◌}
-use mathlib.Core.Bool.{Bool, true, false, not}
-use lib.ListN.{length, get_or}
-use Rattle.building.proofs.build_log_segment.Reads as reads
-use Rattle.building.proofs.build_log_segment.Lts as lts
-use Rattle.parts.proofs.has_specifier.Reads as has-specifier-reads
-use Rattle.building.proofs.make_specified.Reads as make-specified-reads
+use mathlib.Core.Path.{refl, sym, ◌∙◌}
+use mathlib.Core.List.{[]}
+use mathlib.Core.Bool.{true, false}
 use Rattle.building.proofs.build_log_segment.Goals as goal
 
 -- src/build.rt:45:27

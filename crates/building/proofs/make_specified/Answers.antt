@@ -1,15 +1,8 @@
 use Rattle.building.proofs.Making.{words_twice, words_unnamed, words_full, words_told, specifier_keeps}
 use Rattle.building.proofs.Bounds.{keeps_refused}
-use borrow.Author.Rules.{rules}
 use native.Mathlib.Omega.{arith}
-use Prim.Native.Nat.{ℕ, zero, suc, ◌+◌, ◌-◌, ◌*◌, ◌≤◌, ◌<◌}
-use mathlib.Core.Path.{◌≡◌, refl, sym, ap, subst, ◌∙◌}
-use mathlib.Core.List.{List, [], ◌∷◌, ◌++◌}
-use mathlib.Core.Bool.{Bool, true, false, not}
-use lib.ListN.{length, get_or}
-use Rattle.building.proofs.make_specified.Reads as reads
-use Rattle.building.proofs.make_specified.Lts as lts
-use Rattle.pool.proofs.put_specifier.Reads as put-specifier-reads
+use mathlib.Core.Path.{refl}
+use mathlib.Core.Bool.{true, false}
 use Rattle.building.proofs.make_specified.Goals as goal
 
 -- src/build.rt:20:9

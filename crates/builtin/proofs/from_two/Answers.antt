@@ -1,5 +1,4 @@
 -- `builtin::from_two` meets its contract. Assumes nothing.
-use borrow.Author.Rules.{rules}
 use native.Mathlib.Omega.{arith}
 use mathlib.Core.Path.{◌≡◌}
 use Rattle.builtin.specs.Rows.{from_two}

@@ -1,5 +1,4 @@
 -- `builtin::length_of` meets its contract. Assumes nothing.
-use borrow.Author.Rules.{rules}
 use Rattle.builtin.proofs.Rule.{lengths, row}
 use Rattle.builtin.proofs.length_of.Goals as goal
 

@@ -1,5 +1,4 @@
 -- `builtin::put_chosen` meets its contract. Assumes nothing.
-use borrow.Author.Rules.{rules}
 use mathlib.Core.Path.{ap, ◌∙◌}
 use lib.ListN.{length}
 use Rattle.buffer.specs.Buffer.{written}

@@ -1,5 +1,4 @@
 -- `caret::harmless_byte` meets its contract. Assumes nothing.
-use borrow.Author.Rules.{rules}
 use mathlib.Core.Path.{sym, ◌∙◌}
 use Rattle.caret.proofs.Shown.{harmless_control, harmless_two, harmless_as_it_is}
 use Rattle.caret.proofs.harmless_byte.Goals as goal

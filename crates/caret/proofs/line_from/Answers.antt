@@ -1,8 +1,6 @@
 -- `caret::line_from` meets its contract: the loop keeps where the line begins, and stands one place further left in each turn. Assumes nothing.
-use Prim.Native.Nat.{◌≤◌}
-use mathlib.Core.Path.{◌≡◌, refl, sym, ◌∙◌}
+use mathlib.Core.Path.{refl, sym, ◌∙◌}
 use native.Mathlib.Omega.{arith}
-use Rattle.caret.specs.Caret.{line_from}
 use Rattle.caret.proofs.Shown.{from_here, from_before, from_start}
 use Rattle.caret.proofs.line_from.Goals as goal
 

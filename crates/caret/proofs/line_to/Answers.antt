@@ -1,11 +1,8 @@
 -- `caret::line_to` meets its contract: the loop keeps where the line ends. Assumes nothing.
-use Prim.Native.Nat.{◌-◌, ◌≤◌}
-use mathlib.Core.Path.{◌≡◌, refl, sym, ◌∙◌}
+use mathlib.Core.Path.{refl, sym, ◌∙◌}
 use native.Mathlib.Omega.{arith}
-use lib.ListN.{length}
-use Rattle.runs.specs.Runs.{run_end}
 use Rattle.runs.proofs.Running.{run_on, run_stop, run_end_lem}
-use Rattle.caret.specs.Caret.{goes_on, line_to}
+use Rattle.caret.specs.Caret.{goes_on}
 use Rattle.caret.proofs.Shown.{ends_here, goes_on_lem}
 use Rattle.caret.proofs.line_to.Goals as goal
 

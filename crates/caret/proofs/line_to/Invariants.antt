@@ -1,12 +1,9 @@
 -- `caret::line_to` meets its contract: the loop keeps where the line ends. Assumes nothing.
 use Prim.Native.Nat.{◌-◌, ◌≤◌}
-use mathlib.Core.Path.{◌≡◌, refl, sym, ◌∙◌}
-use native.Mathlib.Omega.{arith}
+use mathlib.Core.Path.{◌≡◌}
 use lib.ListN.{length}
 use Rattle.runs.specs.Runs.{run_end}
-use Rattle.runs.proofs.Running.{run_on, run_stop, run_end_lem}
 use Rattle.caret.specs.Caret.{goes_on, line_to}
-use Rattle.caret.proofs.Shown.{ends_here, goes_on_lem}
 use Rattle.caret.proofs.line_to.Given as goal
 
 abbrev pub invariant-loop-i : goal.invariant-loop-i

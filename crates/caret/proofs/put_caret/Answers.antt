@@ -1,5 +1,4 @@
 -- `caret::put_caret` meets its contract. Assumes nothing.
-use borrow.Author.Rules.{rules}
 use Prim.Native.Nat.{◌≤◌}
 use native.Mathlib.Omega.{arith}
 use Rattle.caret.proofs.Shown.{caret_put, few_columns}

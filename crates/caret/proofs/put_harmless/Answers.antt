@@ -1,11 +1,9 @@
 -- `caret::put_harmless` meets its contract. The loop's invariant: i bytes are written as they are shown, and the rest is shown behind the byte at hand.
 -- Assumes nothing.
 use borrow.Author.Rules.{rules}
-use Prim.Native.Nat.{◌-◌, ◌≤◌}
-use mathlib.Core.Path.{◌≡◌, refl, sym, ◌∙◌}
+use mathlib.Core.Path.{refl, sym, ◌∙◌}
 use native.Mathlib.Omega.{arith}
-use lib.ListN.{length, drop, take, length-set}
-use Rattle.buffer.specs.Buffer.{put_at}
+use lib.ListN.{length-set}
 use Rattle.buffer.proofs.Writing.{put_nil, copy_more, copy_done}
 use Rattle.caret.specs.Caret.{harmless_behind}
 use Rattle.caret.proofs.Shown.{shown_length, byte_shown, rest_shown}

@@ -1,14 +1,10 @@
 -- `caret::put_harmless` meets its contract. The loop's invariant: i bytes are written as they are shown, and the rest is shown behind the byte at hand.
 -- Assumes nothing.
-use borrow.Author.Rules.{rules}
 use Prim.Native.Nat.{◌-◌, ◌≤◌}
-use mathlib.Core.Path.{◌≡◌, refl, sym, ◌∙◌}
-use native.Mathlib.Omega.{arith}
-use lib.ListN.{length, drop, take, length-set}
+use mathlib.Core.Path.{◌≡◌}
+use lib.ListN.{length, drop, take}
 use Rattle.buffer.specs.Buffer.{put_at}
-use Rattle.buffer.proofs.Writing.{put_nil, copy_more, copy_done}
 use Rattle.caret.specs.Caret.{harmless_behind}
-use Rattle.caret.proofs.Shown.{shown_length, byte_shown, rest_shown}
 use Rattle.caret.proofs.put_harmless.Given as goal
 
 abbrev pub invariant-loop-i : goal.invariant-loop-i

@@ -1,5 +1,4 @@
 -- `caret::put_line` meets its contract. Assumes nothing.
-use borrow.Author.Rules.{rules}
 use native.Mathlib.Omega.{arith}
 use Rattle.caret.proofs.Shown.{line_put}
 use Rattle.caret.proofs.put_line.Goals as goal

@@ -1,12 +1,10 @@
 -- `characters::count_chars` meets its contract. The loop's invariant: a byte passed begins a character or was counted, and b was met or is
 -- still to come. Assumes nothing.
 use borrow.Author.Rules.{rules}
-use mathlib.Core.Path.{◌≡◌, ◌∙◌}
-use mathlib.Core.Bool.{true, cond}
+use mathlib.Core.Path.{◌∙◌}
 use Prim.Native.Nat.{◌≤◌, ◌+◌, ◌-◌}
 use native.Mathlib.Omega.{arith}
-use lib.ListN.{length, drop}
-use Rattle.characters.specs.Characters.{chars, has}
+use lib.ListN.{length}
 use Rattle.characters.proofs.Counting.{chars_end, met_all}
 use Rattle.characters.proofs.count_chars.Goals as goal
 

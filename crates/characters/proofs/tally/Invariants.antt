@@ -1,14 +1,10 @@
 -- `characters::tally` meets its contract. The loop's invariant: a byte passed begins a character or was counted, and b was met or is still to come.
 -- Assumes nothing.
-use borrow.Author.Rules.{rules}
-use mathlib.Core.Path.{◌≡◌, ap, sym, ◌∙◌}
-use mathlib.Core.Bool.{Bool, true, cond}
-use Prim.Native.Nat.{ℕ, ◌≤◌, ◌<◌, ◌+◌, ◌-◌}
-use native.Mathlib.Omega.{arith}
-use lib.Dec.{eqb}
-use lib.ListN.{length, drop, get_or}
+use mathlib.Core.Path.{◌≡◌}
+use mathlib.Core.Bool.{true, cond}
+use Prim.Native.Nat.{◌≤◌, ◌+◌, ◌-◌}
+use lib.ListN.{drop}
 use Rattle.characters.specs.Characters.{chars, has}
-use Rattle.characters.proofs.Counting.{chars_at, has_at, met_on}
 use Rattle.characters.proofs.tally.Given as goal
 
 abbrev pub invariant-loop-k : goal.invariant-loop-k

@@ -1,5 +1,4 @@
 -- `checking::check_template` meets its contract. Assumes nothing.
-use borrow.Author.Rules.{rules}
 use Rattle.checking.proofs.Naming.{told_read, told_refused, asked_small, accepted, refused_check}
 use Rattle.checking.proofs.check_template.Goals as goal
 

@@ -1,5 +1,4 @@
 -- `checking::parse_asked` meets its contract. Assumes nothing.
-use borrow.Author.Rules.{rules}
 use mathlib.Core.Path.{sym, ◌∙◌}
 use Rattle.checking.proofs.Naming.{asked_known, asked_unknown}
 use Rattle.checking.proofs.parse_asked.Goals as goal

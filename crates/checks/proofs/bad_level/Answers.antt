@@ -1,5 +1,4 @@
 -- `checks::bad_level` meets its contract: what a number means settles the tests of it. Assumes nothing.
-use borrow.Author.Rules.{rules}
 use Rattle.record.proofs.LevelNumbers.{numbered}
 use Rattle.checks.proofs.Refusing.{of_print, of_level, of_refused}
 use Rattle.checks.proofs.bad_level.Goals as goal

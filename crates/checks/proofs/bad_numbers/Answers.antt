@@ -1,5 +1,4 @@
 -- `checks::bad_numbers` meets its contract. Assumes nothing.
-use borrow.Author.Rules.{rules}
 use borrow.Author.Tests.{lt-ltb, le-ltb}
 use mathlib.Core.Path.{sym, ◌∙◌}
 use Rattle.checks.proofs.Refusing.{at_first, at_middle, past_middle}

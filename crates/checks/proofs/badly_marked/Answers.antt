@@ -1,6 +1,4 @@
 -- `checks::badly_marked` meets its contract. Assumes nothing.
-use borrow.Author.Rules.{rules}
-use mathlib.Core.Bool.{Bool}
 use Prim.Native.Nat.{ℕ}
 use mathlib.Core.Path.{ap, sym, ◌∙◌}
 use Rattle.checks.proofs.Refusing.{by_numbers, by_fields}

@@ -1,5 +1,4 @@
 -- `checks::check_field` meets its contract. Assumes nothing.
-use borrow.Author.Rules.{rules}
 use mathlib.Core.Path.{sym, ◌∙◌}
 use Rattle.checks.proofs.Refusing.{too_long_lem, accepted, not_utf8}
 use Rattle.checks.specs.Told.{tell_checked}

@@ -1,5 +1,4 @@
 -- `checks::check_fields` meets its contract: the first text that is refused decides. Assumes nothing.
-use borrow.Author.Rules.{rules}
 use mathlib.Core.Path.{ap, sym, ◌∙◌}
 use Rattle.checks.proofs.Refusing.{at_file, at_module, at_timestamp, at_message, at_serial}
 use Rattle.record.specs.Placed.{laid_by}

@@ -1,5 +1,4 @@
 -- `checks::check_record` meets its contract. Assumes nothing.
-use borrow.Author.Rules.{rules}
 use mathlib.Core.Path.{sym, ◌∙◌}
 use Rattle.checks.proofs.Refusing.{refused_marks, past_marks}
 use Rattle.checks.specs.Told.{tell_checked}

@@ -1,8 +1,7 @@
 -- `comparisons::comparison_in` meets its contract. Assumes nothing.
 use borrow.Author.Rules.{rules}
-use borrow.Author.Tests.{not-true, not-false}
 use native.Mathlib.Omega.{arith}
-use Prim.Native.Nat.{◌+◌, ◌-◌, ◌≤◌}
+use Prim.Native.Nat.{◌+◌, ◌≤◌}
 use mathlib.Core.Path.{refl, sym, ap, subst, ◌∙◌}
 use Rattle.buffer.specs.Bytes.{part}
 use Rattle.comparisons.proofs.Marking.{nothing_said, nothing_few, nothing_left, nothing_right, both}

@@ -1,14 +1,8 @@
 -- `comparisons::is_text` meets its contract: the loop keeps whether the rest is the rest of the text. Assumes nothing.
-use borrow.Author.Rules.{rules}
-use native.Mathlib.Omega.{arith}
 use Prim.Native.Nat.{◌≤◌, ◌+◌, ◌-◌}
-use mathlib.Core.Path.{◌≡◌, refl, sym, ◌∙◌}
-use mathlib.Core.Bool.{false}
+use mathlib.Core.Path.{◌≡◌}
 use lib.ListN.{length, drop}
-use native.Mathlib.Nat.{add-zero}
 use Rattle.buffer.specs.Bytes.{part, same}
-use Rattle.spelling.specs.Tables.{compared_byte, compared}
-use Rattle.spelling.proofs.Seeing.{length_differs, word_on, word_off, word_end_lem}
 use Rattle.comparisons.proofs.is_text.Given as goal
 
 abbrev pub invariant-loop-k : goal.invariant-loop-k

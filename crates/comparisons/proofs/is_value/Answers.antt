@@ -1,7 +1,6 @@
 -- `comparisons::is_value` meets its contract. Assumes nothing.
-use borrow.Author.Rules.{rules}
 use native.Mathlib.Omega.{arith}
-use Prim.Native.Nat.{◌+◌, ◌-◌, ◌≤◌}
+use Prim.Native.Nat.{◌+◌, ◌≤◌}
 use mathlib.Core.Path.{ap, ◌∙◌}
 use Rattle.comparisons.proofs.Marking.{too_short, no_mark, value_is, long_any}
 use Rattle.comparisons.specs.Places.{value_by}

@@ -1,8 +1,6 @@
 -- `comparisons::last_two` meets its contract. Assumes nothing.
-use borrow.Author.Rules.{rules}
 use native.Mathlib.Omega.{arith}
-use Prim.Native.Nat.{◌-◌}
-use Rattle.comparisons.proofs.Walking.{Walked, few_none, few_one, walked_start, walked_turn, few_two, last_two_are}
+use Rattle.comparisons.proofs.Walking.{few_none, few_one, walked_start, walked_turn, few_two, last_two_are}
 use Rattle.comparisons.proofs.last_two.Goals as goal
 
 pub returns-then-from-to : goal.returns-then-from-to

@@ -1,8 +1,6 @@
 -- `comparisons::last_two` meets its contract. Assumes nothing.
-use borrow.Author.Rules.{rules}
-use native.Mathlib.Omega.{arith}
 use Prim.Native.Nat.{◌-◌}
-use Rattle.comparisons.proofs.Walking.{Walked, few_none, few_one, walked_start, walked_turn, few_two, last_two_are}
+use Rattle.comparisons.proofs.Walking.{Walked}
 use Rattle.comparisons.proofs.last_two.Given as goal
 
 abbrev pub invariant-loop-next : goal.invariant-loop-next

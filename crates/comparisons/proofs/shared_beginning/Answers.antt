@@ -1,9 +1,7 @@
 -- `comparisons::shared_beginning` meets its contract. Assumes nothing.
-use borrow.Author.Tests.{not-true, not-false}
 use native.Mathlib.Omega.{arith}
-use Prim.Native.Nat.{◌-◌}
 use mathlib.Core.Path.{sym, ◌∙◌}
-use Rattle.comparisons.proofs.Sharing.{Begun, begun_start, begun_turn, begun_stop, stop_left, stop_right, stop_other}
+use Rattle.comparisons.proofs.Sharing.{begun_start, begun_turn, begun_stop, stop_left, stop_right, stop_other}
 use Rattle.comparisons.proofs.shared_beginning.Goals as goal
 
 pub loop-p-init : goal.loop-p-init

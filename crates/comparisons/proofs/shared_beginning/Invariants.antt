@@ -1,9 +1,6 @@
 -- `comparisons::shared_beginning` meets its contract. Assumes nothing.
-use borrow.Author.Tests.{not-true, not-false}
-use native.Mathlib.Omega.{arith}
 use Prim.Native.Nat.{◌-◌}
-use mathlib.Core.Path.{sym, ◌∙◌}
-use Rattle.comparisons.proofs.Sharing.{Begun, begun_start, begun_turn, begun_stop, stop_left, stop_right, stop_other}
+use Rattle.comparisons.proofs.Sharing.{Begun}
 use Rattle.comparisons.proofs.shared_beginning.Given as goal
 
 abbrev pub invariant-loop-p : goal.invariant-loop-p

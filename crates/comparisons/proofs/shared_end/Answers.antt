@@ -1,9 +1,7 @@
 -- `comparisons::shared_end` meets its contract. Assumes nothing.
-use borrow.Author.Tests.{not-true, not-false}
 use native.Mathlib.Omega.{arith}
-use Prim.Native.Nat.{◌-◌}
 use mathlib.Core.Path.{sym, ◌∙◌}
-use Rattle.comparisons.proofs.Sharing.{Rested, rested_start, rested_turn, rested_stop, rest_left, rest_right, rest_other}
+use Rattle.comparisons.proofs.Sharing.{rested_start, rested_turn, rested_stop, rest_left, rest_right, rest_other}
 use Rattle.comparisons.proofs.shared_end.Goals as goal
 
 pub loop-p-init : goal.loop-p-init

@@ -1,6 +1,4 @@
 -- `comparisons::spans_of` meets its contract. Assumes nothing.
-use borrow.Author.Rules.{rules}
-use Prim.Native.Nat.{◌-◌}
 use Rattle.comparisons.proofs.Laying.{spans_are}
 use Rattle.comparisons.proofs.spans_of.Goals as goal
 

@@ -1,12 +1,9 @@
 -- `decimal::decimal` meets its contract. The loop's invariant: the digits of what is left, then those written, are all; and there are places for those left. Assumes nothing.
-use borrow.Author.Rules.{rules}
-use Prim.Native.Nat.{◌≤◌, ◌<◌, ◌+◌, ◌-◌, ◌^◌}
-use mathlib.Core.Path.{◌≡◌, sym, ◌∙◌}
-use native.Mathlib.Omega.{arith}
+use Prim.Native.Nat.{◌≤◌, ◌<◌, ◌+◌, ◌^◌}
+use mathlib.Core.Path.{◌≡◌}
 use mathlib.Core.List.{◌++◌}
-use lib.ListN.{length, drop, length-set}
-use Rattle.fields.specs.Texts.{digits, decimal_text}
-use Rattle.decimal.proofs.Digits.{room, fewer, digits_begin, digits_turn, digits_end_lem}
+use lib.ListN.{length, drop}
+use Rattle.fields.specs.Texts.{digits}
 use Rattle.decimal.proofs.decimal.Given as goal
 
 abbrev pub invariant-loop-left : goal.invariant-loop-left

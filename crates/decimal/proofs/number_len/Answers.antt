@@ -1,6 +1,5 @@
 -- `decimal::number_len` meets its contract. The loop's invariant: the digits counted and those of what is left are all, the first counted twice; and ten digits are enough. Assumes nothing.
-use Prim.Native.Nat.{◌≤◌, ◌<◌, ◌+◌, ◌-◌, ◌^◌}
-use mathlib.Core.Path.{◌≡◌}
+use Prim.Native.Nat.{◌+◌}
 use native.Mathlib.Omega.{arith}
 use lib.ListN.{length}
 use Rattle.fields.specs.Texts.{digits, decimal_text}

@@ -1,10 +1,8 @@
 -- `decimal::number_len` meets its contract. The loop's invariant: the digits counted and those of what is left are all, the first counted twice; and ten digits are enough. Assumes nothing.
 use Prim.Native.Nat.{◌≤◌, ◌<◌, ◌+◌, ◌-◌, ◌^◌}
 use mathlib.Core.Path.{◌≡◌}
-use native.Mathlib.Omega.{arith}
 use lib.ListN.{length}
-use Rattle.fields.specs.Texts.{digits, decimal_text}
-use Rattle.decimal.proofs.Digits.{count_turn, count_end}
+use Rattle.fields.specs.Texts.{digits}
 use Rattle.decimal.proofs.number_len.Given as goal
 
 abbrev pub invariant-loop-left : goal.invariant-loop-left

@@ -1,13 +1,9 @@
 -- `dress::insert` meets its contract. The loop's invariant: the text is half way (`Halfway`). Assumes nothing.
-use borrow.Author.Rules.{rules}
 use mathlib.Core.Path.{refl, sym, ◌∙◌}
-use mathlib.Core.List.{◌++◌}
-use Prim.Native.Nat.{◌-◌}
 use native.Mathlib.Omega.{arith}
-use lib.ListN.{take}
 use Rattle.buffer.specs.Bytes.{part}
 use Rattle.colour.specs.Sequences.{reinserted}
-use Rattle.dress.proofs.Moving.{Halfway, not_past, some_left, moved_byte, reset_fits, moved_reset, reached}
+use Rattle.dress.proofs.Moving.{not_past, some_left, moved_byte, reset_fits, moved_reset, reached}
 use Rattle.dress.proofs.insert.Goals as goal
 
 pub loop-w-init : goal.loop-w-init

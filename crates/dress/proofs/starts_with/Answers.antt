@@ -1,9 +1,7 @@
 -- `dress::starts_with` meets its contract: the loop keeps whether what is left begins with what is left of x. Assumes nothing.
-use mathlib.Core.Path.{◌≡◌, refl, sym, ◌∙◌}
-use Prim.Native.Nat.{◌-◌, ◌≤◌}
+use mathlib.Core.Path.{refl, sym, ◌∙◌}
 use native.Mathlib.Omega.{arith}
-use lib.ListN.{length, drop}
-use Rattle.colour.specs.Sequences.{starts_with}
+use lib.ListN.{drop}
 use Rattle.dress.proofs.Comparing.{starts_short, starts_on, starts_off, starts_end}
 use Rattle.dress.proofs.starts_with.Goals as goal
 

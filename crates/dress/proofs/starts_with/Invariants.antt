@@ -1,10 +1,8 @@
 -- `dress::starts_with` meets its contract: the loop keeps whether what is left begins with what is left of x. Assumes nothing.
-use mathlib.Core.Path.{◌≡◌, refl, sym, ◌∙◌}
+use mathlib.Core.Path.{◌≡◌}
 use Prim.Native.Nat.{◌-◌, ◌≤◌}
-use native.Mathlib.Omega.{arith}
 use lib.ListN.{length, drop}
 use Rattle.colour.specs.Sequences.{starts_with}
-use Rattle.dress.proofs.Comparing.{starts_short, starts_on, starts_off, starts_end}
 use Rattle.dress.proofs.starts_with.Given as goal
 
 abbrev pub invariant-loop-i : goal.invariant-loop-i

@@ -1,5 +1,4 @@
 -- `endings::further_end` meets its contract. Assumes nothing.
-use borrow.Author.Rules.{rules}
 use Rattle.building.proofs.Bounds.{words_fit}
 use Rattle.endings.proofs.Ended.{words_make, words_misfit, words_refused, made_within, nowhere_within}
 use Rattle.endings.proofs.further_end.Goals as goal

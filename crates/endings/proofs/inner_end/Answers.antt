@@ -1,5 +1,4 @@
 -- `endings::inner_end` meets its contract. Assumes nothing.
-use borrow.Author.Rules.{rules}
 use native.Mathlib.Omega.{arith}
 use Rattle.building.proofs.Bounds.{words_fit}
 use Rattle.lists.proofs.Worded.{narrow_none}

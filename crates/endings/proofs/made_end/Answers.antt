@@ -1,5 +1,4 @@
 -- `endings::made_end` meets its contract. Assumes nothing.
-use borrow.Author.Rules.{rules}
 use Rattle.endings.proofs.Ended.{made_twice, made_once}
 use Rattle.endings.proofs.made_end.Goals as goal
 

@@ -1,5 +1,4 @@
 -- `endings::named_end` meets its contract. Assumes nothing.
-use borrow.Author.Rules.{rules}
 use Rattle.endings.specs.Ending.{named_end}
 use Rattle.endings.proofs.Ended.{named_as}
 use Rattle.endings.proofs.named_end.Goals as goal

@@ -1,5 +1,4 @@
 -- `endings::parameter_end` meets its contract. Assumes nothing.
-use borrow.Author.Rules.{rules}
 use mathlib.Core.Path.{◌∙◌}
 use Rattle.parts.specs.Parts.{with_parameter}
 use Rattle.building.proofs.Answers.{parts_fit, parts_misfit, parts_refused}

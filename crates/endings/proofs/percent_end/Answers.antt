@@ -1,8 +1,6 @@
 -- `endings::percent_end` meets its contract. Assumes nothing.
-use borrow.Author.Tests.{not-true, not-false}
 use Rattle.runs.proofs.Running.{stands_before}
 use Rattle.endings.proofs.Ended.{percent_nowhere, percent_there, ends_wider, nowhere_within}
-use borrow.Author.Rules.{rules}
 use native.Mathlib.Omega.{arith}
 use mathlib.Core.Path.{sym, ◌∙◌}
 use Rattle.endings.proofs.percent_end.Goals as goal

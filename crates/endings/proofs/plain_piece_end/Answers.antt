@@ -1,6 +1,5 @@
 -- `endings::plain_piece_end` meets its contract. Assumes nothing.
 use Rattle.endings.proofs.Ended.{plain_text, plain_percent, ends_bounds, at_within}
-use borrow.Author.Rules.{rules}
 use Rattle.endings.proofs.plain_piece_end.Goals as goal
 
 pub returns-in-At : goal.returns-in-At

@@ -1,5 +1,4 @@
 -- `endings::specifier_end` meets its contract. Assumes nothing.
-use borrow.Author.Rules.{rules}
 use Rattle.building.proofs.Bounds.{words_fit}
 use Rattle.lists.proofs.Worded.{narrow_none}
 use Rattle.endings.proofs.Ended.{specifier_fits, specifier_misfits, specifier_refused, named_within, nowhere_within}

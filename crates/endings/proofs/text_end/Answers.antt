@@ -1,6 +1,5 @@
 -- `endings::text_end` meets its contract. Assumes nothing.
 use Rattle.endings.proofs.Ended.{text_nowhere, text_at_lem, at_within, nowhere_within}
-use borrow.Author.Rules.{rules}
 use native.Mathlib.Omega.{arith}
 use Rattle.endings.proofs.text_end.Goals as goal
 

@@ -1,6 +1,5 @@
 -- `endings::word_end` meets its contract. Assumes nothing.
 use Rattle.endings.proofs.Ended.{word_even, word_odd}
-use borrow.Author.Rules.{rules}
 use Rattle.endings.proofs.word_end.Goals as goal
 
 pub returns-then-even : goal.returns-then-even

@@ -1,5 +1,4 @@
 -- `fields::are_colons` meets its contract. Assumes nothing.
-use borrow.Author.Rules.{rules}
 use mathlib.Core.Path.{sym}
 use Rattle.fields.proofs.Colons.{colon_first, no_colon}
 use Rattle.fields.proofs.are_colons.Goals as goal

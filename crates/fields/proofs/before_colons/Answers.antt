@@ -1,13 +1,10 @@
 -- `fields::before_colons` meets its contract: the bytes passed stand before what is found in those that are left. Assumes nothing.
 use borrow.Author.Rules.{rules}
-use mathlib.Core.Path.{◌≡◌, sym, ◌∙◌}
-use Prim.Native.Nat.{◌-◌, ◌≤◌}
+use mathlib.Core.Path.{sym, ◌∙◌}
 use native.Mathlib.Omega.{arith}
-use Rattle.fields.proofs.Colons.{ahead, colons_start, colons_here, colons_later, colons_none, found_shown, none_shown}
-use Rattle.paths.specs.Paths.{before_colons}
+use Rattle.fields.proofs.Colons.{colons_start, colons_here, colons_later, colons_none, found_shown, none_shown}
 use Rattle.fields.specs.Texts.{no_crate}
 use Rattle.fields.specs.Wordings.{bytes_of}
-use Rattle.buffer.specs.Bytes.{part}
 use Rattle.fields.proofs.before_colons.Goals as goal
 
 pub loop-i-init : goal.loop-i-init

@@ -1,12 +1,8 @@
 -- `fields::before_colons` meets its contract: the bytes passed stand before what is found in those that are left. Assumes nothing.
-use borrow.Author.Rules.{rules}
-use mathlib.Core.Path.{◌≡◌, sym, ◌∙◌}
+use mathlib.Core.Path.{◌≡◌}
 use Prim.Native.Nat.{◌-◌, ◌≤◌}
-use native.Mathlib.Omega.{arith}
-use Rattle.fields.proofs.Colons.{ahead, colons_start, colons_here, colons_later, colons_none, found_shown, none_shown}
+use Rattle.fields.proofs.Colons.{ahead}
 use Rattle.paths.specs.Paths.{before_colons}
-use Rattle.fields.specs.Texts.{no_crate}
-use Rattle.fields.specs.Wordings.{bytes_of}
 use Rattle.buffer.specs.Bytes.{part}
 use Rattle.fields.proofs.before_colons.Given as goal
 

@@ -1,5 +1,4 @@
 -- `fields::build_crate_name` meets its contract. Assumes nothing.
-use borrow.Author.Rules.{rules}
 use mathlib.Core.Path.{sym, ◌∙◌}
 use Rattle.fields.proofs.Texts.{crate_there, crate_absent}
 use Rattle.fields.proofs.build_crate_name.Goals as goal

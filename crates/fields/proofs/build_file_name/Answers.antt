@@ -1,5 +1,4 @@
 -- `fields::build_file_name` meets its contract. Assumes nothing.
-use borrow.Author.Rules.{rules}
 use mathlib.Core.Path.{sym, ◌∙◌}
 use Rattle.fields.proofs.Texts.{name_there, name_absent}
 use Rattle.fields.proofs.build_file_name.Goals as goal

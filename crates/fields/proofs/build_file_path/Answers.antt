@@ -1,5 +1,4 @@
 -- `fields::build_file_path` meets its contract. Assumes nothing.
-use borrow.Author.Rules.{rules}
 use mathlib.Core.Path.{sym, ◌∙◌}
 use Rattle.fields.proofs.Texts.{path_there, path_absent}
 use Rattle.fields.proofs.build_file_path.Goals as goal

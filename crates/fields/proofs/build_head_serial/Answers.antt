@@ -1,5 +1,4 @@
 -- `fields::build_head_serial` meets its contract. Assumes nothing.
-use borrow.Author.Rules.{rules}
 use mathlib.Core.Path.{sym, ◌∙◌}
 use Rattle.fields.proofs.Texts.{head_there, head_absent}
 use Rattle.fields.proofs.build_head_serial.Goals as goal

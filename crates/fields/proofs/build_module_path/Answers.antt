@@ -1,5 +1,4 @@
 -- `fields::build_module_path` meets its contract. Assumes nothing.
-use borrow.Author.Rules.{rules}
 use mathlib.Core.Path.{sym, ◌∙◌}
 use Rattle.fields.proofs.Texts.{module_there, module_absent}
 use Rattle.fields.proofs.build_module_path.Goals as goal

@@ -1,5 +1,4 @@
 -- `fields::build_timestamp` meets its contract. Assumes nothing.
-use borrow.Author.Rules.{rules}
 use mathlib.Core.Path.{sym, ◌∙◌}
 use Rattle.fields.proofs.Texts.{time_host, time_there, time_empty}
 use Rattle.fields.proofs.build_timestamp.Goals as goal

@@ -1,5 +1,4 @@
 -- `fields::comparison_of` meets its contract: a host's message is no comparison. Assumes nothing.
-use borrow.Author.Rules.{rules}
 use mathlib.Core.Path.{◌≡◌, refl, sym, ap, ◌∙◌}
 use mathlib.Core.List.{List}
 use Prim.Native.Nat.{ℕ}

@@ -1,5 +1,4 @@
 -- `fields::wording_of` meets its contract. Assumes nothing.
-use borrow.Author.Rules.{rules}
 use native.Mathlib.Omega.{arith}
 use mathlib.Core.Path.{ap, ◌∙◌}
 use Rattle.fields.proofs.Texts.{line_shown, message_shown, level_shown, worded_as}

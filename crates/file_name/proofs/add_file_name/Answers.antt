@@ -24,7 +24,6 @@ slice_bounds-add-count c =
     let w = within_at c.args.i c.args.e c.in-At.from c.in-At.to c.first_shown-first.result c.in-At.is c.first_shown-first.ensures.1 in
     search rules
 
-
 pub add-b-requires : goal.add-b-requires
 add-b-requires c = (c.requires.small.0, omega (arith, name_room c.args.d.now c.args.i c.args.e c.args.n c.first_shown-first.result c.first_shown-first.ensures.0 c.in-At.from c.in-At.to c.in-At.is, c.requires.small.1))
 

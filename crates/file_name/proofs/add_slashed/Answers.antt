@@ -1,14 +1,13 @@
 -- `file_name::add_slashed` meets its contract. The loop's invariant: with what remains added, the measure is that with all of it added. Assumes nothing.
 use borrow.Author.Rules.{rules}
-use Prim.Native.Nat.{◌≤◌, ◌-◌}
-use mathlib.Core.Path.{◌≡◌, refl, ap, ◌∙◌}
+use mathlib.Core.Path.{refl, ap, ◌∙◌}
 use native.Mathlib.Omega.{arith}
 use Rattle.buffer.specs.Bytes.{bytes, part}
 use Rattle.paths.specs.Paths.{slashed}
 use Rattle.paths.specs.Remaining.{remaining}
 use Rattle.paths.proofs.Pieces.{within_at}
 use Rattle.measure.specs.declared.Measure.{Measure}
-use Rattle.measure.specs.Measures.{grown, Small}
+use Rattle.measure.specs.Measures.{grown}
 use Rattle.file_name.proofs.Slashing.{slashed_at, slashed_nothing, slashed_room}
 use Rattle.measure.proofs.Turns.{small_on, len_on, grown_turn, grown_end}
 use Rattle.file_name.proofs.add_slashed.Goals as goal
@@ -26,7 +25,6 @@ pub slice_bounds-add-count : goal.slice_bounds-add-count
 slice_bounds-add-count c =
     let w = within_at c.loop-from.k c.args.e c.in-At.from c.in-At.to c.next_component-c.result c.in-At.is c.next_component-c.ensures.1 in
     search rules
-
 
 pub add-b-requires-in-loop-from : goal.add-b-requires-in-loop-from
 add-b-requires-in-loop-from c = (

@@ -1,6 +1,6 @@
 -- `file_name::put_file_name` meets its contract. Assumes nothing.
 use borrow.Author.Rules.{rules}
-use Prim.Native.Nat.{ℕ, ◌+◌, ◌-◌}
+use Prim.Native.Nat.{ℕ, ◌+◌}
 use mathlib.Core.Path.{ap, sym, ◌∙◌}
 use native.Mathlib.Omega.{arith}
 use mathlib.Core.List.{List}
@@ -27,7 +27,6 @@ pub slice_bounds-put-count : goal.slice_bounds-put-count
 slice_bounds-put-count c =
     let w = within_at c.args.i c.args.e c.in-At.from c.in-At.to c.first_shown-first.result c.in-At.is c.first_shown-first.ensures.1 in
     search rules
-
 
 pub put-y-requires : goal.put-y-requires
 put-y-requires c = omega (arith, name_room c.args.d.now c.args.i c.args.e c.args.n c.first_shown-first.result c.first_shown-first.ensures.0 c.in-At.from c.in-At.to c.in-At.is, c.requires.d_in_bounds)

@@ -1,7 +1,7 @@
 -- `file_name::put_slashed` meets its contract. The loop's invariant: with what remains written at y, the buffer is as with all of it written. Assumes nothing.
 use borrow.Author.Rules.{rules}
-use Prim.Native.Nat.{◌≤◌, ◌+◌, ◌-◌}
-use mathlib.Core.Path.{◌≡◌, refl, ◌∙◌}
+use Prim.Native.Nat.{◌+◌}
+use mathlib.Core.Path.{refl, ◌∙◌}
 use native.Mathlib.Omega.{arith}
 use lib.ListN.{length}
 use Rattle.buffer.specs.Bytes.{bytes, part}
@@ -28,7 +28,6 @@ pub slice_bounds-put-count : goal.slice_bounds-put-count
 slice_bounds-put-count c =
     let w = within_at c.loop-from.k c.args.e c.in-At.from c.in-At.to c.next_component-c.result c.in-At.is c.next_component-c.ensures.1 in
     search rules
-
 
 pub put-y-requires-in-loop-from : goal.put-y-requires-in-loop-from
 put-y-requires-in-loop-from c =

@@ -1,16 +1,10 @@
 -- `file_name::put_slashed` meets its contract. The loop's invariant: with what remains written at y, the buffer is as with all of it written. Assumes nothing.
-use borrow.Author.Rules.{rules}
 use Prim.Native.Nat.{◌≤◌, ◌+◌, ◌-◌}
-use mathlib.Core.Path.{◌≡◌, refl, ◌∙◌}
-use native.Mathlib.Omega.{arith}
+use mathlib.Core.Path.{◌≡◌}
 use lib.ListN.{length}
-use Rattle.buffer.specs.Bytes.{bytes, part}
 use Rattle.buffer.specs.Buffer.{put_at}
 use Rattle.paths.specs.Paths.{slashed}
 use Rattle.paths.specs.Remaining.{remaining}
-use Rattle.paths.proofs.Pieces.{within_at}
-use Rattle.file_name.proofs.Slashing.{slashed_at, slashed_nothing, slashed_room}
-use Rattle.measure.proofs.Turns.{put_second, put_turn, put_end}
 use Rattle.file_name.proofs.put_slashed.Given as goal
 
 abbrev pub invariant-loop-from : goal.invariant-loop-from

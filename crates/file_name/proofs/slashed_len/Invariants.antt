@@ -1,13 +1,9 @@
 -- `file_name::slashed_len` meets its contract. The loop's invariant: the bytes counted and those of what remains are all. Assumes nothing.
-use borrow.Author.Rules.{rules}
 use Prim.Native.Nat.{◌≤◌, ◌+◌, ◌-◌}
-use mathlib.Core.Path.{◌≡◌, ap}
-use native.Mathlib.Omega.{arith}
+use mathlib.Core.Path.{◌≡◌}
 use lib.ListN.{length}
 use Rattle.paths.specs.Paths.{slashed}
 use Rattle.paths.specs.Remaining.{remaining}
-use Rattle.paths.proofs.Pieces.{within_at}
-use Rattle.file_name.proofs.Slashing.{slashed_nothing, slashed_length}
 use Rattle.file_name.proofs.slashed_len.Given as goal
 
 abbrev pub invariant-loop-from : goal.invariant-loop-from

@@ -1,5 +1,4 @@
 -- `formats::format_for` meets its contract: width and ink are what the two calls give. Assumes nothing.
-use borrow.Author.Rules.{rules}
 use Rattle.formats.specs.Formats.{format_for}
 use Rattle.formats.proofs.format_for.Goals as goal
 

@@ -1,5 +1,4 @@
 -- `formats::ink_for` meets its contract, case by case. Assumes nothing.
-use borrow.Author.Rules.{rules}
 use mathlib.Core.Path.{ap, sym, ◌∙◌}
 use Rattle.record.specs.Levels.{level_of}
 use Rattle.formats.specs.Levels.{severity, warning, ink_for}

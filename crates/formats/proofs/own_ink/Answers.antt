@@ -1,5 +1,4 @@
 -- `formats::own_ink` meets its contract, specifier by specifier. Assumes nothing.
-use borrow.Author.Rules.{rules}
 use mathlib.Core.Path.{ap, sym, ◌∙◌}
 use Rattle.record.specs.Levels.{level_of}
 use Rattle.formats.specs.Levels.{severity}

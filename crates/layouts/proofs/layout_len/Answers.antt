@@ -1,5 +1,4 @@
 -- `layouts::layout_len` meets its contract. Assumes nothing.
-use borrow.Author.Rules.{rules}
 use mathlib.Core.Path.{sym, ap, subst, ◌∙◌}
 use native.Mathlib.Omega.{arith}
 use Rattle.measure.specs.declared.Measure.{Measure}

@@ -1,13 +1,9 @@
 -- `layouts::put_layout` meets its contract. The loop's invariant: what is written and what is left are the whole. Assumes nothing.
 use Prim.Native.Nat.{◌+◌, ◌-◌, ◌≤◌}
-use mathlib.Core.Path.{◌≡◌, refl, ap, ◌∙◌}
-use native.Mathlib.Omega.{arith}
+use mathlib.Core.Path.{◌≡◌}
 use lib.ListN.{length}
 use Rattle.buffer.specs.Buffer.{put_at}
-use Rattle.buffer.proofs.Writing.{put_length}
-use Rattle.layouts.specs.Runs.{run_text, laid_text}
-use Rattle.layouts.proofs.Runs.{run_fits, runs_laid}
-use Rattle.layouts.proofs.Laying.{left_from, left_bytes, left_put, done_bytes, done_put}
+use Rattle.layouts.proofs.Laying.{left_from}
 use Rattle.layouts.proofs.put_layout.Given as goal
 
 abbrev pub invariant-loop-k : goal.invariant-loop-k

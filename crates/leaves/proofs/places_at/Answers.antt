@@ -1,6 +1,5 @@
 -- `leaves::places_at` meets its contract. Assumes nothing.
 use mathlib.Core.Path.{refl}
-use borrow.Author.Rules.{rules}
 use Rattle.leaves.specs.Places.{places_of}
 use Rattle.leaves.proofs.places_at.Goals as goal
 

@@ -2,7 +2,6 @@
 use Prim.Native.Nat.{ℕ, min}
 use mathlib.Core.Path.{ap, ◌∙◌}
 use native.Mathlib.Omega.{arith}
-use borrow.Author.Rules.{rules}
 use lib.ListN.{length}
 use Rattle.buffer.specs.Buffer.{put_at}
 use Rattle.leaves.proofs.Cutting.{part_cut}

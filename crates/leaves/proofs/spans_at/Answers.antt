@@ -1,6 +1,5 @@
 -- `leaves::spans_at` meets its contract. Assumes nothing.
 use mathlib.Core.Path.{refl}
-use borrow.Author.Rules.{rules}
 use Rattle.leaves.specs.Places.{spans_of}
 use Rattle.leaves.proofs.spans_at.Goals as goal
 

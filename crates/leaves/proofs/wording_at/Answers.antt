@@ -1,5 +1,4 @@
 -- `leaves::wording_at` meets its contract. Assumes nothing.
-use borrow.Author.Rules.{rules}
 use mathlib.Core.Path.{sym, ap, subst, ◌∙◌}
 use lib.ListN.{length}
 use Rattle.record.specs.declared.Places.{Places}

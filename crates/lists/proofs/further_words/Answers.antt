@@ -3,20 +3,9 @@ use Rattle.building.proofs.Answers.{parts_fit, parts_misfit, parts_refused}
 use Rattle.building.proofs.Bounds.{words_fit, fit_words, refused_words}
 use Rattle.runs.proofs.Running.{stands_before}
 use Rattle.words.proofs.Attempts.{further_item, further_ends, further_refused, further_none}
-use Rattle.words.specs.Trying.{further}
-use Rattle.segments.specs.Sizes.{Narrow}
-use Rattle.building.specs.Reading.{word_at}
-use borrow.Author.Rules.{rules}
 use native.Mathlib.Omega.{arith}
-use Prim.Native.Nat.{ℕ, zero, suc, ◌+◌, ◌-◌, ◌*◌, ◌≤◌, ◌<◌}
-use mathlib.Core.Path.{◌≡◌, refl, sym, ap, subst, ◌∙◌}
-use mathlib.Core.List.{List, [], ◌∷◌, ◌++◌}
-use mathlib.Core.Bool.{Bool, true, false, not}
-use lib.ListN.{length, get_or}
-use Rattle.lists.proofs.further_words.Reads as reads
-use Rattle.lists.proofs.further_words.Lts as lts
-use Rattle.lists.proofs.parse_word.Reads as parse-word-reads
-use Rattle.runs.proofs.stands_at.Reads as stands-at-reads
+use mathlib.Core.Path.{refl, sym, ◌∙◌}
+use mathlib.Core.Bool.{true, false}
 use Rattle.lists.proofs.further_words.Goals as goal
 
 -- src/lists.rt:93:5

@@ -1,13 +1,5 @@
 use Rattle.building.specs.Told.{item_of}
-use borrow.Author.Rules.{rules}
-use native.Mathlib.Omega.{arith}
-use Prim.Native.Nat.{ℕ, zero, suc, ◌+◌, ◌-◌, ◌*◌, ◌≤◌, ◌<◌}
-use mathlib.Core.Path.{◌≡◌, refl, sym, ap, subst, ◌∙◌}
-use mathlib.Core.List.{List, [], ◌∷◌, ◌++◌}
-use mathlib.Core.Bool.{Bool, true, false, not}
-use lib.ListN.{length, get_or}
-use Rattle.lists.proofs.item_of.Reads as reads
-use Rattle.lists.proofs.item_of.Lts as lts
+use mathlib.Core.Path.{sym, ap}
 use Rattle.lists.proofs.item_of.Goals as goal
 
 -- src/lists.rt:147:1

@@ -1,12 +1,5 @@
 use Rattle.lists.proofs.Itemed.{even_segment, even_parameter, even_refused, items_same, items_after, next_kept, words_kept}
 use Rattle.building.proofs.Bounds.{keeps_fit, fit_items, refused_items}
-use borrow.Author.Rules.{rules}
-use native.Mathlib.Omega.{arith}
-use Prim.Native.Nat.{ℕ, zero, suc, ◌+◌, ◌-◌, ◌*◌, ◌≤◌, ◌<◌}
-use mathlib.Core.Path.{◌≡◌, refl, sym, ap, subst, ◌∙◌}
-use mathlib.Core.List.{List, [], ◌∷◌, ◌++◌}
-use mathlib.Core.Bool.{Bool, true, false, not}
-use lib.ListN.{length, get_or}
 use Rattle.lists.proofs.parse_even_item.Goals as goal
 
 pub parse_nested_argument-o-requires : goal.parse_nested_argument-o-requires

@@ -1,12 +1,6 @@
 use Rattle.lists.proofs.Worded.{inner_made, inner_misfit, inner_refused}
 use Rattle.building.proofs.Bounds.{words_fit, within_misfit, keeps_misfit, keeps_refused}
-use borrow.Author.Rules.{rules}
-use native.Mathlib.Omega.{arith}
-use Prim.Native.Nat.{ℕ, zero, suc, ◌+◌, ◌-◌, ◌*◌, ◌≤◌, ◌<◌}
-use mathlib.Core.Path.{◌≡◌, refl, sym, ap, subst, ◌∙◌}
-use mathlib.Core.List.{List, [], ◌∷◌, ◌++◌}
-use mathlib.Core.Bool.{Bool, true, false, not}
-use lib.ListN.{length, get_or}
+use mathlib.Core.Path.{refl}
 use Rattle.lists.proofs.parse_nested_argument.Goals as goal
 
 pub parse_words-o-requires : goal.parse_words-o-requires

@@ -1,18 +1,9 @@
 use Rattle.lists.proofs.Grouped.{percent_none, percent_fit, percent_fails, percent_refused, asked_kept}
 use Rattle.building.proofs.Bounds.{words_fit, fit_pieces, misfit_pieces, refused_pieces}
 use Rattle.runs.proofs.Running.{stands_before}
-use borrow.Author.Tests.{not-true, not-false}
-use borrow.Author.Rules.{rules}
 use native.Mathlib.Omega.{arith}
-use Prim.Native.Nat.{ℕ, zero, suc, ◌+◌, ◌-◌, ◌*◌, ◌≤◌, ◌<◌}
-use mathlib.Core.Path.{◌≡◌, refl, sym, ap, subst, ◌∙◌}
-use mathlib.Core.List.{List, [], ◌∷◌, ◌++◌}
-use mathlib.Core.Bool.{Bool, true, false, not}
-use lib.ListN.{length, get_or}
-use Rattle.lists.proofs.parse_nested_format.Reads as reads
-use Rattle.lists.proofs.parse_nested_format.Lts as lts
-use Rattle.lists.proofs.parse_parameter.Reads as parse-parameter-reads
-use Rattle.runs.proofs.stands_at.Reads as stands-at-reads
+use mathlib.Core.Path.{sym, ◌∙◌}
+use mathlib.Core.Bool.{true, false}
 use Rattle.lists.proofs.parse_nested_format.Goals as goal
 
 -- src/lists.rt:219:9

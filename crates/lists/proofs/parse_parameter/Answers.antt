@@ -1,17 +1,6 @@
 use Rattle.lists.proofs.Worded.{parameter_fit, parameter_misfit, parameter_refused, asked_narrow}
 use Rattle.building.proofs.Bounds.{fit_words, misfit_words, refused_words}
 use Rattle.words.proofs.Answers.{format_bounds}
-use borrow.Author.Rules.{rules}
-use native.Mathlib.Omega.{arith}
-use Prim.Native.Nat.{ℕ, zero, suc, ◌+◌, ◌-◌, ◌*◌, ◌≤◌, ◌<◌}
-use mathlib.Core.Path.{◌≡◌, refl, sym, ap, subst, ◌∙◌}
-use mathlib.Core.List.{List, [], ◌∷◌, ◌++◌}
-use mathlib.Core.Bool.{Bool, true, false, not}
-use lib.ListN.{length, get_or}
-use Rattle.lists.proofs.parse_parameter.Reads as reads
-use Rattle.lists.proofs.parse_parameter.Lts as lts
-use Rattle.parts.proofs.with_parameter.Reads as with-parameter-reads
-use Rattle.words.proofs.parser.parse_format.Reads as parse-format-reads
 use Rattle.lists.proofs.parse_parameter.Goals as goal
 
 -- src/lists.rt:72:1

@@ -1,11 +1,6 @@
 use Rattle.lists.proofs.Itemed.{plain_mode}
-use borrow.Author.Rules.{rules}
-use native.Mathlib.Omega.{arith}
-use Prim.Native.Nat.{ℕ, zero, suc, ◌+◌, ◌-◌, ◌*◌, ◌≤◌, ◌<◌}
-use mathlib.Core.Path.{◌≡◌, refl, sym, ap, subst, ◌∙◌}
-use mathlib.Core.List.{List, [], ◌∷◌, ◌++◌}
-use mathlib.Core.Bool.{Bool, true, false, not}
-use lib.ListN.{length, get_or}
+use mathlib.Core.Path.{refl}
+use mathlib.Core.Bool.{true, false}
 use Rattle.lists.proofs.parse_plain_item.Goals as goal
 
 pub parse_even_item-requires : goal.parse_even_item-requires

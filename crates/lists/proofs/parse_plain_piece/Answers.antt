@@ -1,12 +1,6 @@
 use Rattle.lists.proofs.Grouped.{plain_text, plain_asked, plain_refused, plain_direct, member_told, member_kept, pieces_same, pieces_after}
 use Rattle.building.proofs.Bounds.{keeps_fit, fit_pieces, refused_pieces}
-use borrow.Author.Rules.{rules}
-use native.Mathlib.Omega.{arith}
-use Prim.Native.Nat.{ℕ, zero, suc, ◌+◌, ◌-◌, ◌*◌, ◌≤◌, ◌<◌}
-use mathlib.Core.Path.{◌≡◌, refl, sym, ap, subst, ◌∙◌}
-use mathlib.Core.List.{List, [], ◌∷◌, ◌++◌}
-use mathlib.Core.Bool.{Bool, true, false, not}
-use lib.ListN.{length, get_or}
+use mathlib.Core.List.{[]}
 use Rattle.lists.proofs.parse_plain_piece.Goals as goal
 
 pub parse_string_segment-o-requires : goal.parse_string_segment-o-requires

@@ -1,12 +1,8 @@
 use Rattle.building.proofs.Making.{text_none, text_full, text_told, text_keeps}
 use Rattle.building.proofs.Bounds.{keeps_misfit, keeps_refused}
-use borrow.Author.Rules.{rules}
 use native.Mathlib.Omega.{arith}
-use Prim.Native.Nat.{ℕ, zero, suc, ◌+◌, ◌-◌, ◌*◌, ◌≤◌, ◌<◌}
-use mathlib.Core.Path.{◌≡◌, refl, sym, ap, subst, ◌∙◌}
-use mathlib.Core.List.{List, [], ◌∷◌, ◌++◌}
-use mathlib.Core.Bool.{Bool, true, false, not}
-use lib.ListN.{length, get_or}
+use mathlib.Core.Path.{refl}
+use mathlib.Core.Bool.{true}
 use Rattle.lists.proofs.parse_string_segment.Goals as goal
 
 pub plain_end-j-requires : goal.plain_end-j-requires

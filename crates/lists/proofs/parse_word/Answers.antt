@@ -1,18 +1,6 @@
 use Rattle.lists.proofs.Worded.{word_specifier, word_parameter, word_refused, named_narrow}
 use Rattle.building.proofs.Bounds.{fit_words, refused_words}
 use Rattle.words.proofs.Answers.{metadata_bounds}
-use borrow.Author.Rules.{rules}
-use native.Mathlib.Omega.{arith}
-use Prim.Native.Nat.{ℕ, zero, suc, ◌+◌, ◌-◌, ◌*◌, ◌≤◌, ◌<◌}
-use mathlib.Core.Path.{◌≡◌, refl, sym, ap, subst, ◌∙◌}
-use mathlib.Core.List.{List, [], ◌∷◌, ◌++◌}
-use mathlib.Core.Bool.{Bool, true, false, not}
-use lib.ListN.{length, get_or}
-use Rattle.lists.proofs.parse_word.Reads as reads
-use Rattle.lists.proofs.parse_word.Lts as lts
-use Rattle.parts.proofs.with_specifier.Reads as with-specifier-reads
-use Rattle.lists.proofs.parse_parameter.Reads as parse-parameter-reads
-use Rattle.words.proofs.parser.parse_metadata.Reads as parse-metadata-reads
 use Rattle.lists.proofs.parse_word.Goals as goal
 
 -- src/lists.rt:58:1

@@ -1,12 +1,7 @@
 use Rattle.lists.proofs.Worded.{words_listed, words_misfit, words_refused, from_none, narrow_none}
 use Rattle.building.proofs.Bounds.{words_fit, words_wider, misfit_words, refused_words}
-use borrow.Author.Rules.{rules}
 use native.Mathlib.Omega.{arith}
-use Prim.Native.Nat.{ℕ, zero, suc, ◌+◌, ◌-◌, ◌*◌, ◌≤◌, ◌<◌}
-use mathlib.Core.Path.{◌≡◌, refl, sym, ap, subst, ◌∙◌}
-use mathlib.Core.List.{List, [], ◌∷◌, ◌++◌}
-use mathlib.Core.Bool.{Bool, true, false, not}
-use lib.ListN.{length, get_or}
+use mathlib.Core.Path.{◌∙◌}
 use Rattle.lists.proofs.parse_words.Goals as goal
 
 pub parse_word-o-requires : goal.parse_word-o-requires

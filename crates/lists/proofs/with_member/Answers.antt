@@ -1,13 +1,5 @@
 use Rattle.building.specs.Told.{joined_by}
-use borrow.Author.Rules.{rules}
-use native.Mathlib.Omega.{arith}
-use Prim.Native.Nat.{ℕ, zero, suc, ◌+◌, ◌-◌, ◌*◌, ◌≤◌, ◌<◌}
-use mathlib.Core.Path.{◌≡◌, refl, sym, ap, subst, ◌∙◌}
-use mathlib.Core.List.{List, [], ◌∷◌, ◌++◌}
-use mathlib.Core.Bool.{Bool, true, false, not}
-use lib.ListN.{length, get_or}
-use Rattle.lists.proofs.with_member.Reads as reads
-use Rattle.lists.proofs.with_member.Lts as lts
+use mathlib.Core.Bool.{true, false}
 use Rattle.lists.proofs.with_member.Goals as goal
 
 -- src/lists.rt:207:9

@@ -1,15 +1,6 @@
 use Rattle.building.specs.Told.{with_last, next_inner}
 use Rattle.building.specs.declared.Inner.{Inner}
-use Rattle.building.specs.declared.Items.{Items}
-use borrow.Author.Rules.{rules}
-use native.Mathlib.Omega.{arith}
-use Prim.Native.Nat.{ℕ, zero, suc, ◌+◌, ◌-◌, ◌*◌, ◌≤◌, ◌<◌}
-use mathlib.Core.Path.{◌≡◌, refl, sym, ap, subst, ◌∙◌}
-use mathlib.Core.List.{List, [], ◌∷◌, ◌++◌}
-use mathlib.Core.Bool.{Bool, true, false, not}
-use lib.ListN.{length, get_or}
-use Rattle.lists.proofs.with_segment.Reads as reads
-use Rattle.lists.proofs.with_segment.Lts as lts
+use mathlib.Core.Path.{sym, ap}
 use Rattle.lists.proofs.with_segment.Goals as goal
 
 -- src/lists.rt:135:1

@@ -1,9 +1,8 @@
 -- `members::forward` meets its contract. The loop's invariant: the row is filled for the segments below i. Assumes nothing.
-use Prim.Native.Nat.{ℕ, ◌+◌, ◌-◌, ◌≤◌}
+use Prim.Native.Nat.{ℕ}
 use mathlib.Core.Path.{◌≡◌, refl, sym, ap, ◌∙◌}
 use mathlib.Core.List.{List}
 use native.Mathlib.Omega.{arith}
-use lib.ListN.{length}
 use Rattle.members.specs.Links.{linked_by, links_forward}
 use Rattle.members.proofs.Forwards.{links_none, links_more}
 use Rattle.members.proofs.forward.Goals as goal

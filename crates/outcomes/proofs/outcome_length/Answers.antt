@@ -1,5 +1,4 @@
 -- `outcomes::outcome_length` meets its contract. Assumes nothing.
-use borrow.Author.Rules.{rules}
 use native.Mathlib.Omega.{arith}
 use Rattle.outcomes.proofs.Answered.{measured, refused_shown}
 use mathlib.Core.Path.{sym, ap, ◌∙◌}

@@ -1,5 +1,4 @@
 -- `outcomes::put_outcome` meets its contract. Assumes nothing.
-use borrow.Author.Rules.{rules}
 use native.Mathlib.Omega.{arith}
 use Rattle.outcomes.proofs.Answered.{measured, line_written, refused_shown}
 use Prim.Native.Nat.{ℕ, ◌+◌}

@@ -2,7 +2,6 @@
 use mathlib.Core.Path.{sym, ap, subst, ◌∙◌}
 use native.Mathlib.Omega.{arith}
 use Rattle.packing.specs.Packing.{Packable, packed_answer}
-use borrow.Author.Rules.{rules}
 use Rattle.packing.proofs.pack.Goals as goal
 
 pub overflow_mul-result : goal.overflow_mul-result

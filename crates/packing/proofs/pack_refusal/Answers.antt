@@ -1,6 +1,5 @@
 -- `packing::pack_refusal` meets its contract. Assumes nothing.
 use native.Mathlib.Omega.{arith}
-use borrow.Author.Rules.{rules}
 use Rattle.packing.proofs.pack_refusal.Goals as goal
 
 pub overflow_add-result : goal.overflow_add-result

@@ -1,5 +1,4 @@
 use Rattle.parts.specs.Parts.{asking}
-use borrow.Author.Rules.{rules}
 use mathlib.Core.Path.{sym, ap}
 use Rattle.parts.proofs.asking_for.Goals as goal
 

@@ -1,5 +1,4 @@
 use Rattle.parts.specs.Parts.{asks}
-use borrow.Author.Rules.{rules}
 use mathlib.Core.Path.{sym, ap, ◌∙◌}
 use Rattle.parts.proofs.asks_already.Goals as goal
 

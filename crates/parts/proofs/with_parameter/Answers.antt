@@ -1,5 +1,4 @@
 use Rattle.parts.specs.Parts.{with_parameter}
-use borrow.Author.Rules.{rules}
 use mathlib.Core.Path.{sym, ◌∙◌}
 use Rattle.parts.proofs.with_parameter.Goals as goal
 

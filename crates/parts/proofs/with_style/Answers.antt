@@ -1,5 +1,4 @@
 use Rattle.parts.specs.Parts.{with_style}
-use borrow.Author.Rules.{rules}
 use mathlib.Core.Path.{sym, ap}
 use Rattle.parts.proofs.with_style.Goals as goal
 

@@ -1,15 +1,12 @@
 -- `paths::after_components` meets its contract: what is left to skip of what is left. Assumes nothing.
-use borrow.Author.Rules.{rules}
 use mathlib.Core.Path.{◌≡◌, ap, sym, ◌∙◌}
-use Prim.Native.Nat.{ℕ, ◌-◌}
+use Prim.Native.Nat.{ℕ}
 use native.Mathlib.Omega.{arith}
 use lib.ListN.{drop}
 use Rattle.paths.proofs.Pieces.{skip_one, skip_none, within_at, within_wider}
 use Rattle.paths.proofs.Places.{after_nothing, after_one, after_none}
-use Rattle.paths.specs.Paths.{components}
 use Rattle.paths.specs.declared.Component.{Component}
-use Rattle.paths.specs.Remaining.{components_from, ComponentWithin, first_from, after_from}
-use Rattle.buffer.specs.Bytes.{part}
+use Rattle.paths.specs.Remaining.{components_from, after_from}
 use Rattle.paths.proofs.after_components.Goals as goal
 
 pub loop-left-init : goal.loop-left-init

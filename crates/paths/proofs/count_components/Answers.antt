@@ -1,13 +1,9 @@
 -- `paths::count_components` meets its contract: those counted and those left are all. Assumes nothing.
-use borrow.Author.Rules.{rules}
-use mathlib.Core.Path.{◌≡◌, ap}
-use Prim.Native.Nat.{◌+◌}
+use mathlib.Core.Path.{ap}
 use native.Mathlib.Omega.{arith}
 use lib.ListN.{length}
 use Rattle.paths.proofs.Pieces.{count_one, count_none, within_at, within_wider}
 use Rattle.paths.proofs.Short.{components_few}
-use Rattle.paths.specs.Paths.{components}
-use Rattle.paths.specs.Remaining.{components_from, ComponentWithin}
 use Rattle.buffer.proofs.Parts.{part_length}
 use Rattle.buffer.specs.Bytes.{part}
 use Rattle.paths.proofs.count_components.Goals as goal

@@ -1,13 +1,9 @@
 -- `paths::end_of` meets its contract: the bytes passed stand before the first piece of what is left. Assumes nothing.
 use borrow.Author.Rules.{rules}
-use mathlib.Core.Path.{◌≡◌, refl, sym, ◌∙◌}
-use Prim.Native.Nat.{◌+◌, ◌-◌, ◌≤◌, ◌<◌}
+use mathlib.Core.Path.{refl, sym, ◌∙◌}
 use native.Mathlib.Omega.{arith}
-use Rattle.paths.proofs.Pieces.{onto, pieces_slash, piece_begins, piece_goes_on, pieces_end, remaining_piece}
+use Rattle.paths.proofs.Pieces.{pieces_slash, piece_begins, piece_goes_on, pieces_end, remaining_piece}
 use Rattle.paths.proofs.Places.{end_slash, end_on, end_none}
-use Rattle.paths.specs.Paths.{pieces}
-use Rattle.paths.specs.Remaining.{end_from}
-use Rattle.buffer.specs.Bytes.{part}
 use Rattle.paths.proofs.end_of.Goals as goal
 
 pub loop-i-init : goal.loop-i-init

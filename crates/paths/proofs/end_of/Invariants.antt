@@ -1,10 +1,7 @@
 -- `paths::end_of` meets its contract: the bytes passed stand before the first piece of what is left. Assumes nothing.
-use borrow.Author.Rules.{rules}
-use mathlib.Core.Path.{◌≡◌, refl, sym, ◌∙◌}
+use mathlib.Core.Path.{◌≡◌}
 use Prim.Native.Nat.{◌+◌, ◌-◌, ◌≤◌, ◌<◌}
-use native.Mathlib.Omega.{arith}
-use Rattle.paths.proofs.Pieces.{onto, pieces_slash, piece_begins, piece_goes_on, pieces_end, remaining_piece}
-use Rattle.paths.proofs.Places.{end_slash, end_on, end_none}
+use Rattle.paths.proofs.Pieces.{onto}
 use Rattle.paths.specs.Paths.{pieces}
 use Rattle.paths.specs.Remaining.{end_from}
 use Rattle.buffer.specs.Bytes.{part}

@@ -1,12 +1,7 @@
 -- `paths::next_component` meets its contract: what was passed holds no component. Assumes nothing.
-use borrow.Author.Rules.{rules}
-use borrow.Author.Tests.{not-true, not-false}
-use mathlib.Core.Path.{◌≡◌, refl, sym, ◌∙◌}
+use mathlib.Core.Path.{◌≡◌}
 use Prim.Native.Nat.{◌-◌, ◌≤◌}
-use native.Mathlib.Omega.{arith}
-use Rattle.paths.proofs.Pieces.{is_dropped_lem, is_kept, remaining_slash, remaining_end}
-use Rattle.paths.proofs.Places.{next_slash, next_kept, next_dropped, next_none}
-use Rattle.paths.specs.Remaining.{remaining, components_from, next_from}
+use Rattle.paths.specs.Remaining.{remaining, next_from}
 use Rattle.paths.proofs.next_component.Given as goal
 
 abbrev pub invariant-loop-i : goal.invariant-loop-i

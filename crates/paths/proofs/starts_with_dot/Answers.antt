@@ -1,5 +1,4 @@
 -- `paths::starts_with_dot` meets its contract. Assumes nothing.
-use borrow.Author.Rules.{rules}
 use native.Mathlib.Omega.{arith}
 use mathlib.Core.Path.{sym}
 use Rattle.paths.proofs.Pieces.{no_dot, lone_dot, dot_then}

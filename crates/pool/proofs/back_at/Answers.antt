@@ -1,5 +1,4 @@
 -- `pool::back_at` meets its contract. Assumes nothing.
-use borrow.Author.Rules.{rules}
 use mathlib.Core.Path.{ap, ◌∙◌}
 use Rattle.segments.specs.Pool.{link_below, back}
 use Rattle.pool.proofs.back_at.Goals as goal

@@ -1,5 +1,4 @@
 -- `pool::begin` meets its contract. Assumes nothing.
-use borrow.Author.Rules.{rules}
 use native.Mathlib.Omega.{arith}
 use lib.ListN.{length-set}
 use Rattle.pool.proofs.Stored.{begun}

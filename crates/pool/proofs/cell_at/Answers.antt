@@ -1,5 +1,4 @@
 -- `pool::cell_at` meets its contract. Assumes nothing.
-use borrow.Author.Rules.{rules}
 use mathlib.Core.Path.{refl}
 use Rattle.segments.specs.Pool.{cell}
 use Rattle.pool.proofs.cell_at.Goals as goal

@@ -1,5 +1,4 @@
 -- `pool::format_at` meets its contract. Assumes nothing.
-use borrow.Author.Rules.{rules}
 use mathlib.Core.Path.{ap, ◌∙◌}
 use Rattle.segments.specs.Pool.{stored_colour, stored_styles, stored_width, stored_alignment, stored_padding, format_at}
 use Rattle.pool.proofs.format_at.Goals as goal

@@ -1,5 +1,4 @@
 -- `pool::last_at` meets its contract. Assumes nothing.
-use borrow.Author.Rules.{rules}
 use mathlib.Core.Path.{ap, ◌∙◌}
 use Rattle.segments.specs.Pool.{link_below, last_member}
 use Rattle.pool.proofs.last_at.Goals as goal

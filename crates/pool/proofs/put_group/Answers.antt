@@ -1,5 +1,4 @@
 -- `pool::put_group` meets its contract. Assumes nothing.
-use borrow.Author.Rules.{rules}
 use native.Mathlib.Omega.{arith}
 use Rattle.pool.proofs.Stored.{added_last, added_group}
 use Rattle.pool.proofs.put_group.Goals as goal

@@ -1,5 +1,4 @@
 -- `pool::put_specifier` meets its contract. Assumes nothing.
-use borrow.Author.Rules.{rules}
 use native.Mathlib.Omega.{arith}
 use Rattle.pool.proofs.Stored.{added_specifier}
 use Rattle.pool.proofs.put_specifier.Goals as goal

@@ -1,5 +1,4 @@
 -- `pool::put_text` meets its contract. Assumes nothing.
-use borrow.Author.Rules.{rules}
 use native.Mathlib.Omega.{arith}
 use Rattle.pool.proofs.Stored.{added_text}
 use Rattle.pool.proofs.put_text.Goals as goal

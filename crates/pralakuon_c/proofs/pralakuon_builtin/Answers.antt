@@ -8,7 +8,6 @@ use Rattle.answer.proofs.Answering.{answer_in_room, buffer_in_room, packed_answe
 use Rattle.packing.proofs.Rooms.{packable_in}
 use Rattle.builtin.specs.Choices.{chosen}
 use Rattle.builtin.proofs.Choices.{chosen_short}
-use borrow.Author.Rules.{rules}
 use Rattle.pralakuon_c.proofs.pralakuon_builtin.Goals as goal
 
 pub pack-requires : goal.pack-requires

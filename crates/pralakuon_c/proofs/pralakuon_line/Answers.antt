@@ -3,7 +3,6 @@ use mathlib.Core.Path.{ap, ◌∙◌}
 use Rattle.answer.specs.Answers.{line_entry}
 use Rattle.packing.specs.Packing.{packed_answer}
 use Rattle.answer.proofs.Answering.{packed_answer_lem}
-use borrow.Author.Rules.{rules}
 use Rattle.pralakuon_c.proofs.pralakuon_line.Goals as goal
 
 pub returns : goal.returns

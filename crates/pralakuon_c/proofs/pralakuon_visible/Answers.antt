@@ -3,7 +3,6 @@ use mathlib.Core.Path.{ap, ◌∙◌}
 use Rattle.packing.specs.Packing.{packed_answer}
 use Rattle.answer.proofs.Answering.{packed_answer_lem}
 use Rattle.visible.specs.Visible.{visible_entry}
-use borrow.Author.Rules.{rules}
 use Rattle.pralakuon_c.proofs.pralakuon_visible.Goals as goal
 
 pub returns : goal.returns

@@ -1,5 +1,5 @@
 -- `rows::join_of`, `rows::raw_of` and `rows::seg_of` meet their contracts. Assumes nothing.
-use Rattle.std.proofs.Common.{◌≡◌, ℕ, ◌+◌, ◌-◌, ◌≤◌, ◌++◌, false, arith, ap, length, refl, subst, sym, ◌∙◌}
+use Rattle.std.proofs.Common.{◌≡◌, ℕ, ◌+◌, ◌-◌, ◌++◌, false, arith, ap, length, refl, subst, sym, ◌∙◌}
 use lib.ListN.{replicate}
 use Rattle.colour.specs.Formatting.{pad_byte}
 use Rattle.measure.specs.declared.Measure.{Measure}
@@ -8,11 +8,10 @@ use Rattle.measure.proofs.Measured.{small_grown}
 use Rattle.segments.specs.declared.Kind.{Kind}
 use Rattle.segments.specs.Pool.{kind_at, segment_at, chain_at}
 use Rattle.members.proofs.Linking.{on_end}
-use Rattle.members.proofs.Forwards.{forward_less, After, member_next}
+use Rattle.members.proofs.Forwards.{forward_less, member_next}
 use Rattle.leaves.specs.Places.{record_by}
 use Rattle.dress.proofs.Framing.{opening, Framed, framed_length, open_length, frame_walked}
 use Rattle.rows.specs.Texts.{segment_text, segments_text, raw_text, bare_by, is_bare}
-use Rattle.rows.specs.Rows.{row_at}
 use Rattle.rows.proofs.Linking.{member_room}
 use Rattle.rows.proofs.Depths.{group_deep, members_low, member_low}
 use Rattle.rows.proofs.Segments.{raw_of_text, raw_of_members, raw_of_specifier, measured_none, measured_step}

@@ -1,9 +1,9 @@
 -- `rows::members_len` meets its contract. The loop's invariant: the lengths added and those further back are all. Assumes nothing.
-use Prim.Native.Nat.{◌+◌, ◌-◌, ◌≤◌}
+use Prim.Native.Nat.{◌+◌, ◌-◌}
 use mathlib.Core.Path.{◌≡◌, refl}
 use native.Mathlib.Omega.{arith}
 use Rattle.segments.specs.Pool.{back}
-use Rattle.rows.specs.Rows.{row_at, lengths_back}
+use Rattle.rows.specs.Rows.{row_at}
 use Rattle.rows.proofs.Lengths.{lengths_none, lengths_step}
 use Rattle.rows.proofs.members_len.Goals as goal
 

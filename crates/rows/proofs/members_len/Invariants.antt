@@ -1,10 +1,7 @@
 -- `rows::members_len` meets its contract. The loop's invariant: the lengths added and those further back are all. Assumes nothing.
-use Prim.Native.Nat.{◌+◌, ◌-◌, ◌≤◌}
-use mathlib.Core.Path.{◌≡◌, refl}
-use native.Mathlib.Omega.{arith}
-use Rattle.segments.specs.Pool.{back}
-use Rattle.rows.specs.Rows.{row_at, lengths_back}
-use Rattle.rows.proofs.Lengths.{lengths_none, lengths_step}
+use Prim.Native.Nat.{◌+◌, ◌≤◌}
+use mathlib.Core.Path.{◌≡◌}
+use Rattle.rows.specs.Rows.{lengths_back}
 use Rattle.rows.proofs.members_len.Given as goal
 
 abbrev pub invariant-loop-k : goal.invariant-loop-k

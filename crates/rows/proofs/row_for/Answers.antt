@@ -1,5 +1,4 @@
 -- `rows::row_for` meets its contract. Assumes nothing.
-use borrow.Author.Rules.{rules}
 use mathlib.Core.Path.{◌≡◌, sym, ap, subst, ◌∙◌}
 use mathlib.Core.Bool.{false, true}
 use native.Mathlib.Omega.{arith}

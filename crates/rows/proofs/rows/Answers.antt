@@ -1,10 +1,9 @@
 -- `rows::rows` meets its contract. Assumes nothing.
-use Prim.Native.Nat.{◌+◌, ◌-◌, ◌*◌, ◌≤◌}
-use mathlib.Core.Path.{◌≡◌, refl, ◌∙◌}
+use Prim.Native.Nat.{◌+◌, ◌*◌}
+use mathlib.Core.Path.{refl, ◌∙◌}
 use native.Mathlib.Omega.{arith}
-use lib.ListN.{length, set, length-set}
+use lib.ListN.{set, length-set}
 use Rattle.leaves.specs.Places.{record_by}
-use Rattle.rows.specs.Rows.{Tabled}
 use Rattle.members.proofs.Forwards.{forward_less}
 use Rattle.rows.proofs.Tables.{readable_less, row_set_length, tabled_less, tabled_none, tabled_more}
 use Rattle.rows.proofs.rows.Goals as goal

@@ -1,12 +1,9 @@
 -- `rows::rows` meets its contract. Assumes nothing.
-use Prim.Native.Nat.{◌+◌, ◌-◌, ◌*◌, ◌≤◌}
-use mathlib.Core.Path.{◌≡◌, refl, ◌∙◌}
-use native.Mathlib.Omega.{arith}
-use lib.ListN.{length, set, length-set}
+use Prim.Native.Nat.{◌-◌, ◌≤◌}
+use mathlib.Core.Path.{◌≡◌}
+use lib.ListN.{length}
 use Rattle.leaves.specs.Places.{record_by}
 use Rattle.rows.specs.Rows.{Tabled}
-use Rattle.members.proofs.Forwards.{forward_less}
-use Rattle.rows.proofs.Tables.{readable_less, row_set_length, tabled_less, tabled_none, tabled_more}
 use Rattle.rows.proofs.rows.Given as goal
 
 abbrev pub invariant-loop-i : goal.invariant-loop-i

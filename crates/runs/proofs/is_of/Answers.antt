@@ -1,5 +1,4 @@
 -- `is_of` meets its contract. Assumes nothing.
-use borrow.Author.Rules.{rules}
 use Rattle.runs.specs.Runs.{made_of}
 use Rattle.runs.proofs.is_of.Goals as goal
 

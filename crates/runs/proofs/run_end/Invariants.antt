@@ -1,11 +1,7 @@
 -- `run_end_lem` meets its contract. The loop keeps where the run ends. Assumes nothing.
-use borrow.Author.Rules.{rules}
-use native.Mathlib.Omega.{arith}
-use borrow.Author.Tests.{not-true, not-false}
 use Prim.Native.Nat.{◌≤◌, ◌-◌}
-use mathlib.Core.Path.{◌≡◌, refl, sym, ◌∙◌}
+use mathlib.Core.Path.{◌≡◌}
 use Rattle.runs.specs.Runs.{made_of, run_end}
-use Rattle.runs.proofs.Running.{run_on, run_stop, run_end_lem}
 use Rattle.runs.proofs.run_end.Given as goal
 
 abbrev pub invariant-loop-i : goal.invariant-loop-i

@@ -1,5 +1,4 @@
 -- `stands_at` meets its contract. Assumes nothing.
-use borrow.Author.Rules.{rules}
 use borrow.Author.Tests.{lt-ltb}
 use mathlib.Core.Path.{sym}
 use Rattle.runs.specs.Runs.{stands}

@@ -1,5 +1,4 @@
 -- `scanning::act_of` meets its contract: an arm for each state. Assumes nothing.
-use borrow.Author.Rules.{rules}
 use mathlib.Core.Path.{ap, sym, ◌∙◌}
 use borrow.Author.Tests.{eq-eqb}
 use Rattle.colour.specs.declared.State.{State}

@@ -1,7 +1,6 @@
 -- `scanning::among` meets its contract: each test of the byte is one of the definition. Assumes nothing.
 use mathlib.Core.Path.{sym, ◌∙◌}
 use borrow.Author.Tests.{eq-eqb, ne_eqb}
-use borrow.Author.Rules.{rules}
 use Rattle.scanning.proofs.among.Goals as goal
 
 pub returns-then-b-eq109 : goal.returns-then-b-eq109

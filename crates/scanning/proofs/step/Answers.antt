@@ -1,5 +1,4 @@
 -- `scanning::step` meets its contract: an arm for each act. Assumes nothing.
-use borrow.Author.Rules.{rules}
 use mathlib.Core.Path.{ap, sym, ◌∙◌}
 use Rattle.colour.specs.declared.Act.{Act}
 use Rattle.colour.specs.Machine.{moved}

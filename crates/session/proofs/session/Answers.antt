@@ -1,5 +1,4 @@
 -- `session::session` meets its contract. Assumes nothing.
-use borrow.Author.Rules.{rules}
 use mathlib.Core.Path.{sym, ap, ◌∙◌}
 use lib.ListN.{length}
 use Rattle.answer.specs.Answers.{answer_of, buffer_after}

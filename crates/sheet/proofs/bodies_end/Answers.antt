@@ -1,10 +1,6 @@
 -- `sheet::bodies_end` meets its contract. Assumes nothing.
-use borrow.Author.Rules.{rules}
 use native.Mathlib.Omega.{arith}
-use Prim.Native.Nat.{◌+◌, ◌-◌, ◌*◌, ◌≤◌}
-use mathlib.Core.Path.{◌≡◌}
-use lib.ListN.{length}
-use Rattle.sheet.specs.Sheets.{body_bytes}
+use Prim.Native.Nat.{◌-◌}
 use Rattle.sheet.proofs.Walk.{bytes_next, bytes_end}
 use Rattle.sheet.proofs.bodies_end.Goals as goal
 

@@ -1,5 +1,4 @@
 -- `sheet::body_count` meets its contract. Assumes nothing.
-use borrow.Author.Rules.{rules}
 use native.Mathlib.Omega.{arith}
 use Rattle.sheet.specs.Sheets.{body_count}
 use Rattle.sheet.proofs.body_count.Goals as goal

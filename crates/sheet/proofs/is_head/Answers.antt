@@ -1,5 +1,4 @@
 -- `sheet::is_head` meets its contract. Assumes nothing.
-use borrow.Author.Rules.{rules}
 use native.Mathlib.Omega.{arith}
 use mathlib.Core.Path.{sym, ◌∙◌}
 use Rattle.sheet.proofs.Heads.{no_byte, first_byte}

@@ -1,9 +1,6 @@
 -- `is_repeated_f` meets its contract: the loop keeps whether the rest is `f` repeated. Assumes nothing.
 use native.Mathlib.Omega.{arith}
-use Prim.Native.Nat.{◌≤◌, ◌-◌}
-use mathlib.Core.Path.{◌≡◌, refl, sym, ◌∙◌}
-use lib.ListN.{replicate}
-use Rattle.buffer.specs.Bytes.{part, same}
+use mathlib.Core.Path.{refl, sym, ◌∙◌}
 use Rattle.runs.proofs.Matching.{repeat_on, repeat_off, repeat_end}
 use Rattle.spelling.proofs.is_repeated_f.Goals as goal
 

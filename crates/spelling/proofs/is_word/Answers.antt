@@ -1,12 +1,7 @@
 -- `is_word` meets its contract: the loop keeps whether the rest is the rest of the word. Assumes nothing.
-use borrow.Author.Rules.{rules}
 use native.Mathlib.Omega.{arith}
-use Prim.Native.Nat.{◌≤◌, ◌+◌, ◌-◌}
-use mathlib.Core.Path.{◌≡◌, refl, sym, ◌∙◌}
-use lib.ListN.{length, drop}
+use mathlib.Core.Path.{refl, sym, ◌∙◌}
 use native.Mathlib.Nat.{add-zero}
-use Rattle.buffer.specs.Bytes.{part, same}
-use Rattle.spelling.specs.Tables.{compared}
 use Rattle.spelling.proofs.Seeing.{length_differs, word_on, word_off, word_end_lem}
 use Rattle.spelling.proofs.is_word.Goals as goal
 

@@ -1,5 +1,4 @@
 -- `seen_byte` meets its contract. Assumes nothing.
-use borrow.Author.Rules.{rules}
 use Rattle.spelling.specs.Tables.{compared_byte}
 use Rattle.spelling.proofs.seen_byte.Goals as goal
 

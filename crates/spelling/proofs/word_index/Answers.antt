@@ -1,12 +1,7 @@
 -- `word_index` meets its contract: the loop keeps the index that the whole table gives. Assumes nothing.
-use borrow.Author.Rules.{rules}
 use native.Mathlib.Omega.{arith}
 use native.Mathlib.Nat.{zero-add}
-use Prim.Native.Nat.{◌≤◌, ◌+◌, ◌-◌}
-use mathlib.Core.Path.{◌≡◌, sym, ◌∙◌}
-use lib.ListN.{length, drop}
-use Rattle.buffer.specs.Bytes.{part}
-use Rattle.spelling.specs.Tables.{compared, words_in, index_of}
+use mathlib.Core.Path.{sym, ◌∙◌}
 use Rattle.spelling.proofs.Indexing.{index_found, index_again, index_end}
 use Rattle.spelling.proofs.word_index.Goals as goal
 

@@ -1,5 +1,4 @@
 -- `if_all_used` meets its contract. Assumes nothing.
-use borrow.Author.Rules.{rules}
 use mathlib.Core.Path.{refl}
 use Rattle.segments.specs.Pool.{chain_at}
 use Rattle.template.specs.Template.{read}

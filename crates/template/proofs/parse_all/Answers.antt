@@ -1,17 +1,10 @@
-use Rattle.template.proofs.Topped.{top_of, none_kept, top_begins, top_kept, top_grown, top_more, top_ends, top_refuses, top_past, top_closes, top_fails, message_front, read_after}
+use Rattle.template.proofs.Topped.{none_kept, top_begins, top_kept, top_grown, top_more, top_ends, top_refuses, top_past, top_closes, top_fails, message_front, read_after}
 use Rattle.building.proofs.Bounds.{keeps_fit}
 use Rattle.words.proofs.Attempts.{repeated_fit, repeated_misfit, repeated_refused}
-use Rattle.words.specs.Trying.{repeated}
-use Rattle.segments.specs.Segments.{none}
-use Rattle.building.specs.Reading.{top_at}
-use Rattle.template.specs.Parsing.{ReadKeeps}
-use borrow.Author.Rules.{rules}
 use native.Mathlib.Omega.{arith}
-use Prim.Native.Nat.{ℕ, zero, suc, ◌+◌, ◌-◌, ◌*◌, ◌≤◌, ◌<◌}
-use mathlib.Core.Path.{◌≡◌, refl, sym, ap, subst, ◌∙◌}
-use mathlib.Core.List.{List, [], ◌∷◌, ◌++◌}
-use mathlib.Core.Bool.{Bool, true, false, not}
-use lib.ListN.{length, get_or}
+use mathlib.Core.Path.{◌∙◌}
+use mathlib.Core.Bool.{true, false}
+use lib.ListN.{length}
 use Rattle.template.proofs.parse_all.Goals as goal
 
 pub loop-i-init : goal.loop-i-init

@@ -1,5 +1,4 @@
 -- `parse_by` meets its contract. Assumes nothing.
-use borrow.Author.Rules.{rules}
 use mathlib.Core.Path.{sym, ap, subst, ◌∙◌}
 use Rattle.template.specs.Parsing.{tell_parsed, judged_by, ParsedKeeps}
 use Rattle.template.proofs.Editions.{was_read, top_read, judged_alike, top_refused}

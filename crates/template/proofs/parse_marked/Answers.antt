@@ -1,5 +1,4 @@
 -- `parse_marked` meets its contract: what stands at the front of the copy is the template, marked. Assumes nothing.
-use borrow.Author.Rules.{rules}
 use native.Mathlib.Omega.{arith}
 use mathlib.Core.Path.{ap, ◌∙◌}
 use lib.ListN.{length, take, length-take}

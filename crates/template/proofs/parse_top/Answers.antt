@@ -4,12 +4,9 @@ use Rattle.template.proofs.Topped.{top_brace, top_text, top_refused}
 use Rattle.building.proofs.Bounds.{room_after, fit_keeps, keeps_fit, keeps_after, keeps_refused}
 use borrow.Author.Rules.{rules}
 use native.Mathlib.Omega.{arith}
-use Prim.Native.Nat.{ℕ, zero, suc, ◌+◌, ◌-◌, ◌*◌, ◌≤◌, ◌<◌}
-use mathlib.Core.Path.{◌≡◌, refl, sym, ap, subst, ◌∙◌}
-use mathlib.Core.Logic.{⊎_elim}
-use mathlib.Core.List.{List, [], ◌∷◌, ◌++◌}
-use mathlib.Core.Bool.{Bool, true, false, not}
-use lib.ListN.{length, get_or}
+use mathlib.Core.Path.{sym, ◌∙◌}
+use mathlib.Core.Bool.{false}
+use lib.ListN.{length}
 use Rattle.template.proofs.parse_top.Goals as goal
 use Rattle.template.proofs.parse_top.Goals.{then-stands_at, else-stands_at}
 

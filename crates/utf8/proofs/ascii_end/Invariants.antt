@@ -1,14 +1,10 @@
 -- `utf8::ascii_end` meets its contract. The loop's invariant: whole characters up to i. Assumes nothing.
-use borrow.Author.Rules.{rules}
-use mathlib.Core.Path.{◌≡◌, refl}
+use mathlib.Core.Path.{◌≡◌}
 use mathlib.Core.List.{[]}
-use Prim.Native.Nat.{◌≤◌, ◌+◌, ◌-◌}
-use native.Mathlib.Omega.{arith}
+use Prim.Native.Nat.{◌≤◌, ◌-◌}
 use lib.ListN.{length}
 use Rattle.utf8.specs.Utf8.{awaited}
 use Rattle.utf8.specs.Windows.{reached}
-use Rattle.utf8.proofs.Greatest.{top_bound}
-use Rattle.utf8.proofs.Reached.{ascii_through}
 use Rattle.utf8.proofs.ascii_end.Given as goal
 
 abbrev pub invariant-loop-i : goal.invariant-loop-i

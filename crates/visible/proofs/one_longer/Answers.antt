@@ -1,5 +1,4 @@
 -- `visible::one_longer` meets its contract. Assumes nothing.
-use borrow.Author.Rules.{rules}
 use Rattle.visible.proofs.Sequences.{longer_none, longer_some}
 use Rattle.visible.proofs.one_longer.Goals as goal
 

@@ -1,7 +1,6 @@
 -- `visible::put_stretches` meets its contract. The invariant: the buffer is as it was with the bytes so far written. Assumes nothing.
-use borrow.Author.Rules.{rules}
 use native.Mathlib.Omega.{arith}
-use Prim.Native.Nat.{ℕ, ◌+◌, ◌-◌, ◌≤◌}
+use Prim.Native.Nat.{ℕ, ◌+◌, ◌-◌}
 use mathlib.Core.Path.{◌≡◌, refl, ap, sym, subst, ◌∙◌}
 use mathlib.Core.List.{◌++◌}
 use lib.ListN.{length, take, length-append}

@@ -1,17 +1,10 @@
 -- `visible::put_stretches` meets its contract. The invariant: the buffer is as it was with the bytes so far written. Assumes nothing.
-use borrow.Author.Rules.{rules}
-use native.Mathlib.Omega.{arith}
-use Prim.Native.Nat.{ℕ, ◌+◌, ◌-◌, ◌≤◌}
-use mathlib.Core.Path.{◌≡◌, refl, ap, sym, subst, ◌∙◌}
-use mathlib.Core.List.{◌++◌}
-use lib.ListN.{length, take, length-append}
-use lib.Seq.{take_all, length-take-le}
-use Rattle.buffer.specs.Bytes.{part}
+use Prim.Native.Nat.{◌-◌}
+use mathlib.Core.Path.{◌≡◌}
+use lib.ListN.{length, take}
 use Rattle.buffer.specs.Buffer.{put_at}
-use Rattle.buffer.proofs.Parts.{part_length}
-use Rattle.buffer.proofs.Writing.{put_nil, put_length, join}
 use Rattle.colour.specs.Sequences.{visible}
-use Rattle.visible.proofs.Stretches.{Reached, reached_start, stretched, passed, reached_end, nearer}
+use Rattle.visible.proofs.Stretches.{Reached}
 use Rattle.visible.proofs.put_stretches.Given as goal
 
 abbrev pub invariant-loop-i : goal.invariant-loop-i

@@ -1,5 +1,4 @@
 -- `visible::put_visible` meets its contract. Assumes nothing.
-use borrow.Author.Rules.{rules}
 use native.Mathlib.Omega.{arith}
 use mathlib.Core.Path.{sym}
 use Rattle.colour.specs.Sequences.{visible}

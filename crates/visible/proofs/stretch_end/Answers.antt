@@ -1,11 +1,10 @@
 -- `visible::stretch_end` meets its contract. The invariant: the bytes so far stay, and what is visible from here on follows them. Assumes nothing.
 use borrow.Author.Rules.{rules}
 use native.Mathlib.Omega.{arith}
-use Prim.Native.Nat.{ℕ, ◌+◌, ◌-◌, ◌<◌, ◌≤◌}
-use mathlib.Core.Path.{◌≡◌, sym, subst, ◌∙◌}
-use lib.ListN.{length, drop}
+use mathlib.Core.Path.{◌≡◌}
+use lib.ListN.{drop}
 use Rattle.colour.specs.Sequences.{sequence_length}
-use Rattle.visible.proofs.Stretches.{Stays, stretch_start, stretch_next}
+use Rattle.visible.proofs.Stretches.{stretch_start, stretch_next}
 use Rattle.visible.proofs.stretch_end.Goals as goal
 
 pub loop-e-init : goal.loop-e-init

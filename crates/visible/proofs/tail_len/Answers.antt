@@ -1,10 +1,9 @@
 -- `visible::tail_len` meets its contract. The invariant: what is found from here on, and the bytes so far, are what is found from the start. Assumes nothing.
 use borrow.Author.Rules.{rules}
 use native.Mathlib.Omega.{arith}
-use borrow.Author.Tests.{not-true, not-false}
-use Prim.Native.Nat.{ℕ, ◌+◌, ◌-◌, ◌≤◌}
+use Prim.Native.Nat.{◌+◌, ◌-◌}
 use mathlib.Core.Path.{◌≡◌, ap, sym, ◌∙◌}
-use lib.ListN.{length, drop, get_or}
+use lib.ListN.{drop}
 use Rattle.colour.specs.Sequences.{in_sequence, tail_length}
 use Rattle.visible.proofs.Sequences.{further, further_start, further_next, ends_at, goes_on_lem, breaks_off, tail_ends}
 use Rattle.visible.proofs.tail_len.Goals as goal

@@ -1,9 +1,6 @@
 -- `visible::visible_len` meets its contract. Assumes nothing.
-use borrow.Author.Rules.{rules}
 use native.Mathlib.Omega.{arith}
-use Prim.Native.Nat.{ℕ, ◌+◌, ◌-◌, ◌≤◌}
-use lib.ListN.{length}
-use Rattle.visible.proofs.Stretches.{Reached, reached_start, stretched, passed, reached_end, nearer}
+use Rattle.visible.proofs.Stretches.{reached_start, stretched, passed, reached_end, nearer}
 use Rattle.visible.proofs.visible_len.Goals as goal
 
 pub loop-i-init : goal.loop-i-init

@@ -1,9 +1,7 @@
 -- `visible::visible_len` meets its contract. Assumes nothing.
-use borrow.Author.Rules.{rules}
-use native.Mathlib.Omega.{arith}
-use Prim.Native.Nat.{ℕ, ◌+◌, ◌-◌, ◌≤◌}
+use Prim.Native.Nat.{◌-◌}
 use lib.ListN.{length}
-use Rattle.visible.proofs.Stretches.{Reached, reached_start, stretched, passed, reached_end, nearer}
+use Rattle.visible.proofs.Stretches.{Reached}
 use Rattle.visible.proofs.visible_len.Given as goal
 
 abbrev pub invariant-loop-i : goal.invariant-loop-i

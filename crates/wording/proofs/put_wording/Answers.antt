@@ -1,5 +1,4 @@
 -- `wording::put_wording` meets its contract, case by case. Assumes nothing.
-use borrow.Author.Rules.{rules}
 use Prim.Native.Nat.{◌≤◌, ◌+◌}
 use mathlib.Core.Path.{sym, subst}
 use lib.ListN.{length}

@@ -1,5 +1,4 @@
 -- `comparisons::head::add_head` meets its contract. Assumes nothing.
-use borrow.Author.Rules.{rules}
 use native.Mathlib.Omega.{arith}
 use Rattle.comparisons.proofs.Heading.{head_none_grown, head_bytes, head_grown, line_small, line_len}
 use Rattle.comparisons.proofs.head.add_head.Goals as goal

@@ -1,13 +1,10 @@
 -- `comparisons::head::add_lines` meets its contract. The loop's invariant: with what remains added, the measure is that with all of it added. Assumes nothing.
-use borrow.Author.Rules.{rules}
 use native.Mathlib.Omega.{arith}
-use Prim.Native.Nat.{◌-◌, ◌≤◌}
-use mathlib.Core.Path.{◌≡◌, refl, ap, ◌∙◌}
+use mathlib.Core.Path.{refl, ap, ◌∙◌}
 use Rattle.buffer.specs.Bytes.{bytes}
 use Rattle.measure.specs.declared.Measure.{Measure}
-use Rattle.measure.specs.Measures.{grown, Small}
 use Rattle.measure.proofs.Turns.{small_on, len_on}
-use Rattle.comparisons.proofs.Heading.{lines_from, lines_none_grown, lines_bytes, lines_grown, line_small}
+use Rattle.comparisons.proofs.Heading.{lines_none_grown, lines_bytes, lines_grown, line_small}
 use Rattle.comparisons.proofs.head.add_lines.Goals as goal
 
 pub loop-k-init : goal.loop-k-init

@@ -1,5 +1,4 @@
 -- `comparisons::head::put_head` meets its contract. Assumes nothing.
-use borrow.Author.Rules.{rules}
 use native.Mathlib.Omega.{arith}
 use Rattle.comparisons.proofs.Heading.{head_none_put, head_bytes, head_room, head_put}
 use Rattle.comparisons.proofs.head.put_head.Goals as goal

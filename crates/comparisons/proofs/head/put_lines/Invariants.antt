@@ -1,11 +1,9 @@
 -- `comparisons::head::put_lines` meets its contract. The loop's invariant: with what remains written at b, the buffer is as with all of it written. Assumes nothing.
-use borrow.Author.Rules.{rules}
-use native.Mathlib.Omega.{arith}
 use Prim.Native.Nat.{◌+◌, ◌-◌, ◌≤◌}
-use mathlib.Core.Path.{◌≡◌, refl, ◌∙◌}
+use mathlib.Core.Path.{◌≡◌}
 use lib.ListN.{length}
 use Rattle.buffer.specs.Buffer.{put_at}
-use Rattle.comparisons.proofs.Heading.{lines_from, lines_none_put, lines_bytes, lines_room, lines_put}
+use Rattle.comparisons.proofs.Heading.{lines_from}
 use Rattle.comparisons.proofs.head.put_lines.Given as goal
 
 abbrev pub invariant-loop-k : goal.invariant-loop-k

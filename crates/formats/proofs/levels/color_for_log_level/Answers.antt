@@ -1,5 +1,4 @@
 -- `formats::levels::color_for_log_level` meets its contract. Assumes nothing.
-use borrow.Author.Rules.{rules}
 use mathlib.Core.Path.{ap, sym}
 use Rattle.formats.specs.Levels.{severity}
 use Rattle.formats.proofs.levels.color_for_log_level.Goals as goal

@@ -1,5 +1,4 @@
 -- `formats::levels::color_for_warnings` meets its contract. Assumes nothing.
-use borrow.Author.Rules.{rules}
 use mathlib.Core.Path.{◌≡◌, ap, sym, ◌∙◌}
 use Rattle.words.specs.declared.Color.{Color}
 use Rattle.record.specs.declared.Name.{Name}

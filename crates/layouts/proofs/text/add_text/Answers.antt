@@ -1,5 +1,4 @@
 -- `layouts::text::add_text` meets its contract, case by case. Assumes nothing.
-use borrow.Author.Rules.{rules}
 use Prim.Native.Nat.{◌<◌, ◌+◌, ◌^◌}
 use mathlib.Core.Path.{ap, sym, ◌∙◌, subst}
 use lib.ListN.{length}

@@ -1,5 +1,4 @@
 -- `letters::doubt::doubt` meets its contract. Assumes nothing.
-use borrow.Author.Rules.{rules}
 use Rattle.letters.proofs.Doubting.{doubt_told}
 use Rattle.letters.proofs.doubt.doubt.Goals as goal
 

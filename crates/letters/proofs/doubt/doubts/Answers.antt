@@ -1,6 +1,6 @@
 -- `letters::doubt::doubts` meets its contract. The loop's invariant: the bytes passed were looked at. Assumes nothing.
 use borrow.Author.Rules.{rules}
-use Prim.Native.Nat.{ℕ, ◌+◌, ◌-◌, ◌≤◌}
+use Prim.Native.Nat.{ℕ, ◌+◌}
 use mathlib.Core.Path.{◌≡◌, subst}
 use native.Mathlib.Omega.{arith}
 use Rattle.letters.specs.Doubting.{Looked}

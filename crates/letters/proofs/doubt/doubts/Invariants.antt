@@ -1,10 +1,6 @@
 -- `letters::doubt::doubts` meets its contract. The loop's invariant: the bytes passed were looked at. Assumes nothing.
-use borrow.Author.Rules.{rules}
-use Prim.Native.Nat.{ℕ, ◌+◌, ◌-◌, ◌≤◌}
-use mathlib.Core.Path.{◌≡◌, subst}
-use native.Mathlib.Omega.{arith}
+use Prim.Native.Nat.{◌+◌, ◌-◌, ◌≤◌}
 use Rattle.letters.specs.Doubting.{Looked}
-use Rattle.letters.proofs.Doubting.{looked_none, looked_more}
 use Rattle.letters.proofs.doubt.doubts.Given as goal
 
 abbrev pub invariant-loop-k : goal.invariant-loop-k

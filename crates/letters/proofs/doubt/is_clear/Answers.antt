@@ -1,6 +1,5 @@
 -- `letters::doubt::is_clear` meets its contract. The loop's invariant: no byte passed leaves a doubt. Assumes nothing.
 use borrow.Author.Rules.{rules}
-use Prim.Native.Nat.{◌-◌, ◌≤◌}
 use mathlib.Core.Path.{◌≡◌, sym, subst}
 use native.Mathlib.Omega.{arith}
 use Rattle.utf8.proofs.Wholes.{not_so}

@@ -1,11 +1,6 @@
 -- `letters::doubt::is_clear` meets its contract. The loop's invariant: no byte passed leaves a doubt. Assumes nothing.
-use borrow.Author.Rules.{rules}
 use Prim.Native.Nat.{◌-◌, ◌≤◌}
-use mathlib.Core.Path.{◌≡◌, sym, subst}
-use native.Mathlib.Omega.{arith}
-use Rattle.utf8.proofs.Wholes.{not_so}
 use Rattle.letters.specs.Doubting.{Clear}
-use Rattle.letters.proofs.Doubting.{clear_on}
 use Rattle.letters.proofs.doubt.is_clear.Given as goal
 
 abbrev pub invariant-loop-i : goal.invariant-loop-i

@@ -1,5 +1,4 @@
 -- `letters::doubt::is_unmarked` meets its contract. Assumes nothing.
-use borrow.Author.Rules.{rules}
 use native.Mathlib.Omega.{arith}
 use Rattle.letters.proofs.Doubting.{doubt_empty, doubt_last, no_answer, yes_answer, by_number, by_test}
 use Rattle.letters.proofs.doubt.is_unmarked.Goals as goal

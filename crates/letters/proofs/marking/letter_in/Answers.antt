@@ -1,5 +1,4 @@
 -- `letters::marking::letter_in` meets its contract. Assumes nothing.
-use borrow.Author.Rules.{rules}
 use mathlib.Core.Path.{sym, ◌∙◌}
 use Rattle.letters.proofs.Marks.{letter_first, letter_on}
 use Rattle.letters.proofs.marking.letter_in.Goals as goal

@@ -1,14 +1,10 @@
 -- `letters::marking::mark_by` meets its contract. The loop's invariant: i bytes are copied as they are seen, and the rest of the marked template is the rest of
 -- the template as it is seen behind the character at hand. Assumes nothing.
-use borrow.Author.Rules.{rules}
 use Prim.Native.Nat.{◌-◌, ◌≤◌}
-use mathlib.Core.Path.{◌≡◌, refl, ap, sym, ◌∙◌}
-use native.Mathlib.Omega.{arith}
+use mathlib.Core.Path.{◌≡◌}
 use lib.ListN.{length, drop, take}
 use Rattle.buffer.specs.Buffer.{put_at}
-use Rattle.buffer.proofs.Writing.{put_nil, copy_length, copy_more, copy_done}
 use Rattle.letters.specs.Marked.{marked_on, marked}
-use Rattle.letters.proofs.Marks.{marked_length, byte_marked, rest_marked}
 use Rattle.letters.proofs.marking.mark_by.Given as goal
 
 abbrev pub invariant-loop-i : goal.invariant-loop-i

@@ -1,5 +1,4 @@
 -- `letters::marking::opens_letter` meets its contract. Assumes nothing.
-use borrow.Author.Rules.{rules}
 use mathlib.Core.Path.{sym, ◌∙◌}
 use Rattle.letters.proofs.Marks.{opens_not, opens_by}
 use Rattle.letters.proofs.marking.opens_letter.Goals as goal

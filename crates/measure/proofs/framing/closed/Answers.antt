@@ -1,6 +1,5 @@
 -- `measure::framing::closed` meets its contract. Assumes nothing.
 use native.Mathlib.Omega.{arith}
-use borrow.Author.Rules.{rules}
 use mathlib.Core.Path.{◌≡◌, ap, sym, ◌∙◌, subst}
 use lib.ListN.{length, replicate, length-replicate}
 use Rattle.colour.specs.Formatting.{prefix_in, pad_byte, ending}

@@ -1,5 +1,4 @@
 -- `measure::growing::add` meets its contract. Assumes nothing.
-use borrow.Author.Rules.{rules}
 use mathlib.Core.Path.{sym, ◌∙◌}
 use Rattle.measure.proofs.growing.add.Goals as goal
 

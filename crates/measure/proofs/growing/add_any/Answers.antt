@@ -1,6 +1,5 @@
 -- `measure::growing::add_any` meets its contract. Assumes nothing.
 use native.Mathlib.Omega.{arith}
-use borrow.Author.Rules.{rules}
 use Rattle.characters.proofs.Counting.{chars_length}
 use Rattle.measure.proofs.Adding.{grown_shut}
 use Rattle.measure.proofs.growing.add_any.Goals as goal

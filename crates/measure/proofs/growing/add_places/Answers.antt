@@ -1,5 +1,4 @@
 -- `measure::growing::add_places` meets its contract. Assumes nothing.
-use borrow.Author.Rules.{rules}
 use native.Mathlib.Omega.{arith}
 use mathlib.Core.Path.{ap}
 use Rattle.widths.specs.declared.Wides.{Wides}

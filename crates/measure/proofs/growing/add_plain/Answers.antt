@@ -1,5 +1,4 @@
 -- `measure::growing::add_plain` meets its contract. Assumes nothing.
-use borrow.Author.Rules.{rules}
 use Rattle.measure.proofs.Plain.{grown_plain}
 use Rattle.measure.proofs.growing.add_plain.Goals as goal
 

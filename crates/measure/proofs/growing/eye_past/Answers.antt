@@ -1,9 +1,7 @@
 -- `measure::growing::eye_past` meets its contract. Assumes nothing.
-use borrow.Author.Rules.{rules}
 use borrow.Author.Tests.{eq-eqb, ne_eqb}
-use mathlib.Core.Path.{◌≡◌, sym, ap, ◌∙◌}
+use mathlib.Core.Path.{sym, ap, ◌∙◌}
 use mathlib.Core.Bool.{Bool, cond}
-use Rattle.measure.specs.declared.Eye.{Eye}
 use Rattle.scanning.specs.Resting.{is_resting}
 use Rattle.measure.specs.Measures.{behind_padding}
 use Rattle.measure.proofs.growing.eye_past.Goals as goal

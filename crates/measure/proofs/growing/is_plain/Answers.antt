@@ -1,10 +1,7 @@
 -- `measure::growing::is_plain` meets its contract. The invariant: the rest from here is plain exactly if the whole is. Assumes nothing.
 use borrow.Author.Rules.{rules}
 use native.Mathlib.Omega.{arith}
-use mathlib.Core.Path.{◌≡◌, refl, sym, ◌∙◌}
-use Prim.Native.Nat.{◌≤◌, ◌-◌}
-use lib.ListN.{length, drop}
-use Rattle.measure.specs.Measures.{is_plain}
+use mathlib.Core.Path.{refl, sym, ◌∙◌}
 use Rattle.measure.proofs.Plain.{plain_on, not_ascii, not_free, plain_end_lem}
 use Rattle.measure.proofs.growing.is_plain.Goals as goal
 

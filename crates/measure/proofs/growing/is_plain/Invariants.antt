@@ -1,11 +1,8 @@
 -- `measure::growing::is_plain` meets its contract. The invariant: the rest from here is plain exactly if the whole is. Assumes nothing.
-use borrow.Author.Rules.{rules}
-use native.Mathlib.Omega.{arith}
-use mathlib.Core.Path.{◌≡◌, refl, sym, ◌∙◌}
+use mathlib.Core.Path.{◌≡◌}
 use Prim.Native.Nat.{◌≤◌, ◌-◌}
 use lib.ListN.{length, drop}
 use Rattle.measure.specs.Measures.{is_plain}
-use Rattle.measure.proofs.Plain.{plain_on, not_ascii, not_free, plain_end_lem}
 use Rattle.measure.proofs.growing.is_plain.Given as goal
 
 abbrev pub invariant-loop-i : goal.invariant-loop-i

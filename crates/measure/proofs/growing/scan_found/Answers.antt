@@ -1,7 +1,5 @@
 -- `measure::growing::scan_found` meets its contract: a text without byte 27 moves nothing where no sequence has begun. Assumes nothing.
-use borrow.Author.Rules.{rules}
 use mathlib.Core.Path.{sym, ◌∙◌}
-use borrow.Author.Tests.{not-true}
 use Rattle.colour.proofs.Scanning.{scan_free}
 use Rattle.colour.proofs.Shows.{free_by_has}
 use Rattle.scanning.proofs.Rests.{rests_outside}

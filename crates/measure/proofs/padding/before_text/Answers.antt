@@ -1,6 +1,5 @@
 -- `measure::padding::before_text` meets its contract. Assumes nothing.
 use native.Mathlib.Omega.{arith}
-use borrow.Author.Rules.{rules}
 use mathlib.Core.Path.{ap, sym}
 use Rattle.words.specs.declared.Alignment.{Alignment}
 use Rattle.colour.specs.Formatting.{before}

@@ -1,5 +1,4 @@
 -- `measure::padding::eye_behind` meets its contract. Assumes nothing.
-use borrow.Author.Rules.{rules}
 use mathlib.Core.Path.{ap, ◌∙◌}
 use mathlib.Core.Bool.{Bool}
 use Rattle.measure.specs.Measures.{behind_padding}

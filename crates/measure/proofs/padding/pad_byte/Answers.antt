@@ -1,5 +1,4 @@
 -- `measure::padding::pad_byte` meets its contract. Assumes nothing.
-use borrow.Author.Rules.{rules}
 use mathlib.Core.Path.{ap, sym}
 use Rattle.colour.specs.Formatting.{pad_byte}
 use Rattle.measure.proofs.padding.pad_byte.Goals as goal

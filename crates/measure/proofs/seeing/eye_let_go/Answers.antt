@@ -1,5 +1,4 @@
 -- `measure::seeing::eye_let_go` meets its contract. Assumes nothing.
-use borrow.Author.Rules.{rules}
 use Rattle.measure.proofs.Shut.{shut_let_go}
 use Rattle.measure.proofs.seeing.eye_let_go.Goals as goal
 

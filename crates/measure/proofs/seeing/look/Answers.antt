@@ -1,8 +1,6 @@
 -- `measure::seeing::look` meets its contract. Assumes nothing.
-use borrow.Author.Rules.{rules}
 use native.Mathlib.Omega.{arith}
-use mathlib.Core.Path.{◌≡◌, ap, sym, subst, ◌∙◌}
-use Prim.Native.Nat.{ℕ}
+use mathlib.Core.Path.{ap, sym, subst, ◌∙◌}
 use Rattle.widths.specs.declared.Wides.{Wides}
 use Rattle.widths.specs.Widths.{advanced}
 use Rattle.widths.specs.Fitting.{Fits}

@@ -2,8 +2,8 @@
 use borrow.Author.Rules.{rules}
 use native.Mathlib.Omega.{arith}
 use mathlib.Core.Path.{◌≡◌, refl, ap, sym, subst, ◌∙◌}
-use Prim.Native.Nat.{◌≤◌, ◌+◌, ◌-◌}
-use lib.ListN.{length, drop, get_or}
+use Prim.Native.Nat.{◌+◌}
+use lib.ListN.{drop, get_or}
 use Rattle.widths.specs.declared.Wides.{Wides}
 use Rattle.widths.specs.Fitting.{Fits}
 use Rattle.colour.specs.declared.Scan.{Scan}

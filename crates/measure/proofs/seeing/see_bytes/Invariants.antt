@@ -1,16 +1,9 @@
 -- `measure::seeing::see_bytes` meets its contract. The invariant: what is seen of the rest from here is what is seen of the whole. Assumes nothing.
-use borrow.Author.Rules.{rules}
-use native.Mathlib.Omega.{arith}
-use mathlib.Core.Path.{◌≡◌, refl, ap, sym, subst, ◌∙◌}
+use mathlib.Core.Path.{◌≡◌}
 use Prim.Native.Nat.{◌≤◌, ◌+◌, ◌-◌}
-use lib.ListN.{length, drop, get_or}
-use Rattle.widths.specs.declared.Wides.{Wides}
+use lib.ListN.{length, drop}
 use Rattle.widths.specs.Fitting.{Fits}
-use Rattle.colour.specs.declared.Scan.{Scan}
-use Rattle.colour.specs.Machine.{act_of, moved}
-use Rattle.colour.specs.Seeing.{looked_at, seen_after}
-use Rattle.colour.proofs.Scanning.{sequences_grow, resets_grow}
-use Rattle.colour.proofs.Seeing.{seen_step, seen_end, fits_looked, looked_few}
+use Rattle.colour.specs.Seeing.{seen_after}
 use Rattle.measure.proofs.seeing.see_bytes.Given as goal
 
 abbrev pub invariant-loop-i : goal.invariant-loop-i

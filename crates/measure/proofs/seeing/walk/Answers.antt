@@ -1,5 +1,4 @@
 -- `measure::seeing::walk` meets its contract. The code's table is that of the ranges. Assumes nothing.
-use borrow.Author.Rules.{rules}
 use native.Mathlib.Omega.{arith}
 use mathlib.Core.Path.{refl, sym, ◌∙◌}
 use Rattle.points.specs.Ranges.{ends}

@@ -1,5 +1,4 @@
 -- `outcomes::refusing::put_refusal` meets its contract. Assumes nothing.
-use borrow.Author.Rules.{rules}
 use native.Mathlib.Omega.{arith}
 use Rattle.outcomes.proofs.Refusals.{short_line, long_line, short_length, long_length}
 use Prim.Native.Nat.{ℕ, ◌+◌}

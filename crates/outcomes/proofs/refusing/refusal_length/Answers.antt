@@ -1,5 +1,4 @@
 -- `outcomes::refusing::refusal_length` meets its contract. Assumes nothing.
-use borrow.Author.Rules.{rules}
 use native.Mathlib.Omega.{arith}
 use Rattle.outcomes.proofs.Refusals.{short_length, long_length}
 use Rattle.outcomes.proofs.refusing.refusal_length.Goals as goal

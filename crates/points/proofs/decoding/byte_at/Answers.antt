@@ -1,5 +1,4 @@
 -- `points::decoding::byte_at` meets its contract. Assumes nothing.
-use borrow.Author.Rules.{rules}
 use mathlib.Core.Path.{sym}
 use lib.ListN.{get_or-eq_default}
 use Rattle.points.proofs.decoding.byte_at.Goals as goal

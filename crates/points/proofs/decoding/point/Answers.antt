@@ -1,5 +1,4 @@
 -- `points::decoding::point` meets its contract. Assumes nothing.
-use borrow.Author.Rules.{rules}
 use Prim.Native.Nat.{ℕ}
 use mathlib.Core.Path.{sym, ap, ◌∙◌}
 use Rattle.points.specs.Decoding.{with_six}

@@ -1,9 +1,6 @@
 -- `points::search::ends_up_to` meets its contract. The loop keeps what is known before `low` and from `high` on. Assumes nothing.
-use borrow.Author.Rules.{rules}
-use native.Mathlib.Omega.{arith}
-use Prim.Native.Nat.{ℕ, ◌+◌, ◌-◌, ◌/◌, ◌<◌, ◌≤◌}
-use lib.ListN.{length}
-use Rattle.points.proofs.Halving.{Between, start, up, down, met}
+use Prim.Native.Nat.{◌-◌}
+use Rattle.points.proofs.Halving.{Between}
 use Rattle.points.proofs.search.ends_up_to.Given as goal
 
 abbrev pub invariant-loop-low : goal.invariant-loop-low

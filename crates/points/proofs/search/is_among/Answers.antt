@@ -1,5 +1,4 @@
 -- `points::search::is_among` meets its contract. Assumes nothing.
-use borrow.Author.Rules.{rules}
 use Rattle.points.proofs.Lookup.{ends_odd}
 use Rattle.points.proofs.search.is_among.Goals as goal
 

@@ -1,5 +1,4 @@
 -- `prefix::length::ends_len` meets its contract. Assumes nothing.
-use borrow.Author.Rules.{rules}
 use borrow.Author.Tests.{eq-eqb, ne_eqb}
 use Rattle.prefix.proofs.length.ends_len.Goals as goal
 

@@ -1,6 +1,5 @@
 -- `prefix::length::ink_len` meets its contract. Assumes nothing.
 use native.Mathlib.Omega.{arith}
-use borrow.Author.Rules.{rules}
 use mathlib.Core.Path.{ap, sym, ◌∙◌}
 use lib.ListN.{length}
 use Rattle.colour.specs.declared.Ink.{Ink}

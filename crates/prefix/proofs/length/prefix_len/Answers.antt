@@ -1,6 +1,5 @@
 -- `prefix::length::prefix_len` meets its contract: the sum is the length of the codes, each with the byte after it. Assumes nothing.
 use native.Mathlib.Omega.{arith}
-use borrow.Author.Rules.{rules}
 use mathlib.Core.Path.{◌≡◌, ap, sym, ◌∙◌}
 use mathlib.Core.Bool.{Bool, true, false}
 use Prim.Native.Nat.{◌+◌}

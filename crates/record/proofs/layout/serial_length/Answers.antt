@@ -1,5 +1,4 @@
 -- `record::layout::serial_length` meets its contract. Assumes nothing.
-use borrow.Author.Rules.{rules}
 use native.Mathlib.Omega.{arith}
 use mathlib.Core.Path.{◌∙◌}
 use Rattle.record.proofs.Sizes.{serial_old, serial_new, serial_fits}

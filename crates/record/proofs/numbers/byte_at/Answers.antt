@@ -1,5 +1,4 @@
 -- `record::numbers::byte_at` meets its contract. Assumes nothing.
-use borrow.Author.Rules.{rules}
 use mathlib.Core.Path.{refl}
 use native.Mathlib.Omega.{arith}
 use Rattle.record.proofs.numbers.byte_at.Goals as goal

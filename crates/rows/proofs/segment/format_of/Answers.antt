@@ -1,5 +1,4 @@
 -- `rows::segment::format_of` meets its contract. Assumes nothing.
-use borrow.Author.Rules.{rules}
 use Rattle.leaves.specs.Places.{level_by}
 use Rattle.rows.proofs.Formats.{text_format, group_format_lem, specifier_format_lem}
 use Rattle.rows.proofs.segment.format_of.Goals as goal

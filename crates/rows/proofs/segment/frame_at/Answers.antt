@@ -1,5 +1,4 @@
 -- `rows::segment::frame_at` meets its contract. Assumes nothing.
-use borrow.Author.Rules.{rules}
 use Rattle.rows.proofs.Framing.{frame_made}
 use Rattle.rows.proofs.segment.frame_at.Goals as goal
 

@@ -1,5 +1,4 @@
 -- `rows::segment::is_bare` meets its contract. Assumes nothing.
-use borrow.Author.Rules.{rules}
 use Rattle.rows.proofs.Formats.{text_is_bare, group_is_not, specifier_is}
 use Rattle.rows.proofs.segment.is_bare.Goals as goal
 

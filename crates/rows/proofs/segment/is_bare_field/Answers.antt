@@ -3,7 +3,6 @@ use mathlib.Core.Path.{◌≡◌, refl, sym, ap, ◌∙◌}
 use mathlib.Core.List.{List}
 use mathlib.Core.Bool.{Bool, true, false, ◌||◌}
 use Prim.Native.Nat.{ℕ}
-use borrow.Author.Rules.{rules}
 use Rattle.words.specs.declared.LogMetadata.{LogMetadata}
 use Rattle.record.specs.declared.Source.{Source}
 use Rattle.leaves.specs.Places.{has_comparison, source_by}

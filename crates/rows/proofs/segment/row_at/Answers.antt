@@ -1,5 +1,4 @@
 -- `rows::segment::row_at` meets its contract. Assumes nothing.
-use borrow.Author.Rules.{rules}
 use mathlib.Core.Path.{refl}
 use Rattle.rows.specs.Rows.{row_at}
 use Rattle.rows.proofs.segment.row_at.Goals as goal

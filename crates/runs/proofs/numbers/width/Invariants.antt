@@ -1,11 +1,8 @@
 -- `width` meets its contract: the loop keeps what the digits from here on say. Assumes nothing.
-use borrow.Author.Rules.{rules}
-use native.Mathlib.Omega.{arith}
-use Prim.Native.Nat.{◌≤◌, ◌+◌, ◌-◌}
-use mathlib.Core.Path.{◌≡◌, refl, sym, ◌∙◌}
+use Prim.Native.Nat.{◌≤◌, ◌-◌}
+use mathlib.Core.Path.{◌≡◌}
 use Rattle.buffer.specs.Bytes.{part}
 use Rattle.runs.specs.Runs.{decimal}
-use Rattle.runs.proofs.Counting.{decimal_on, decimal_end, decimal_over}
 use Rattle.runs.proofs.numbers.width.Given as goal
 
 abbrev pub invariant-loop-i : goal.invariant-loop-i

@@ -2,10 +2,6 @@
 -- Assumes nothing.
 use native.Mathlib.Omega.{arith}
 use borrow.Author.Rules.{rules}
-use mathlib.Core.Path.{◌≡◌}
-use Prim.Native.Nat.{◌≤◌, ◌-◌}
-use lib.ListN.{length, drop}
-use Rattle.colour.specs.Texts.{Free}
 use Rattle.scanning.proofs.Searched.{free_step, free_end}
 use Rattle.scanning.proofs.skipping.escapes.Goals as goal
 

@@ -1,12 +1,9 @@
 -- `scanning::skipping::escapes` meets its contract. The invariant: where none was counted, the whole text is free if the rest is.
 -- Assumes nothing.
-use native.Mathlib.Omega.{arith}
-use borrow.Author.Rules.{rules}
 use mathlib.Core.Path.{◌≡◌}
 use Prim.Native.Nat.{◌≤◌, ◌-◌}
 use lib.ListN.{length, drop}
 use Rattle.colour.specs.Texts.{Free}
-use Rattle.scanning.proofs.Searched.{free_step, free_end}
 use Rattle.scanning.proofs.skipping.escapes.Given as goal
 
 abbrev pub invariant-loop-i : goal.invariant-loop-i

@@ -1,5 +1,4 @@
 -- `scanning::skipping::rests` meets its contract. Assumes nothing.
-use borrow.Author.Rules.{rules}
 use mathlib.Core.Path.{sym, ap}
 use Rattle.colour.specs.declared.State.{State}
 use Rattle.scanning.specs.Resting.{is_resting}

@@ -1,8 +1,6 @@
 -- `scanning::skipping::scan_block` meets its contract: a text without byte 27 moves nothing where no sequence has begun. Assumes nothing.
 use native.Mathlib.Omega.{arith}
-use borrow.Author.Rules.{rules}
 use mathlib.Core.Path.{◌≡◌, sym, ◌∙◌}
-use borrow.Author.Tests.{not-false}
 use Rattle.colour.proofs.Scanning.{scan_free}
 use Rattle.scanning.proofs.Rests.{rests_outside}
 use Rattle.scanning.proofs.skipping.scan_block.Goals as goal

@@ -1,7 +1,6 @@
 -- `scanning::skipping::scan_blocks` meets its contract. The invariant: the search of the rest from here is the search of the whole.
 -- Assumes nothing.
 use native.Mathlib.Omega.{arith}
-use borrow.Author.Rules.{rules}
 use mathlib.Core.Path.{◌≡◌, ap, sym, ◌∙◌}
 use Prim.Native.Nat.{◌≤◌, ◌+◌, ◌-◌}
 use lib.ListN.{length, drop}

@@ -1,15 +1,9 @@
 -- `scanning::skipping::scan_blocks` meets its contract. The invariant: the search of the rest from here is the search of the whole.
 -- Assumes nothing.
-use native.Mathlib.Omega.{arith}
-use borrow.Author.Rules.{rules}
-use mathlib.Core.Path.{◌≡◌, ap, sym, ◌∙◌}
+use mathlib.Core.Path.{◌≡◌}
 use Prim.Native.Nat.{◌≤◌, ◌+◌, ◌-◌}
 use lib.ListN.{length, drop}
-use Rattle.buffer.specs.Bytes.{part}
-use Rattle.buffer.proofs.Parts.{part_length}
-use Rattle.colour.specs.declared.Scan.{Scan}
 use Rattle.colour.specs.Machine.{scan}
-use Rattle.colour.proofs.Scanning.{scan_part, scan_end, sequences_small, resets_small}
 use Rattle.scanning.proofs.skipping.scan_blocks.Given as goal
 
 abbrev pub invariant-loop-i : goal.invariant-loop-i

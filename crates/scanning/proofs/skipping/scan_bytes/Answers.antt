@@ -3,8 +3,8 @@
 use native.Mathlib.Omega.{arith}
 use borrow.Author.Rules.{rules}
 use mathlib.Core.Path.{◌≡◌, ap, sym, ◌∙◌}
-use Prim.Native.Nat.{◌≤◌, ◌+◌, ◌-◌}
-use lib.ListN.{length, drop, get_or}
+use Prim.Native.Nat.{◌+◌}
+use lib.ListN.{drop, get_or}
 use Rattle.colour.specs.declared.Scan.{Scan}
 use Rattle.colour.specs.Machine.{act_of, moved, scan}
 use Rattle.colour.proofs.Scanning.{scan_step, scan_end, sequences_grow, resets_grow}

@@ -1,13 +1,9 @@
 -- `scanning::skipping::scan_bytes` meets its contract. The invariant: the search of the rest from here is the search of the whole.
 -- Assumes nothing.
-use native.Mathlib.Omega.{arith}
-use borrow.Author.Rules.{rules}
-use mathlib.Core.Path.{◌≡◌, ap, sym, ◌∙◌}
+use mathlib.Core.Path.{◌≡◌}
 use Prim.Native.Nat.{◌≤◌, ◌+◌, ◌-◌}
-use lib.ListN.{length, drop, get_or}
-use Rattle.colour.specs.declared.Scan.{Scan}
-use Rattle.colour.specs.Machine.{act_of, moved, scan}
-use Rattle.colour.proofs.Scanning.{scan_step, scan_end, sequences_grow, resets_grow}
+use lib.ListN.{length, drop}
+use Rattle.colour.specs.Machine.{scan}
 use Rattle.scanning.proofs.skipping.scan_bytes.Given as goal
 
 abbrev pub invariant-loop-i : goal.invariant-loop-i

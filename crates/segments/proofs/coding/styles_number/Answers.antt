@@ -1,5 +1,4 @@
 -- `segments::coding::styles_number` meets its contract. Assumes nothing.
-use borrow.Author.Rules.{rules}
 use native.Mathlib.Omega.{arith}
 use Rattle.segments.proofs.Codes.{styles_back}
 use Rattle.segments.proofs.coding.styles_number.Goals as goal

@@ -1,5 +1,4 @@
 -- `segments::coding::width_number` meets its contract. Assumes nothing.
-use borrow.Author.Rules.{rules}
 use native.Mathlib.Omega.{arith}
 use mathlib.Core.Path.{sym, ap, ◌∙◌}
 use Rattle.segments.specs.Pool.{stored_width}

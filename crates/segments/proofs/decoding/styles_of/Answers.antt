@@ -1,5 +1,4 @@
 -- `segments::decoding::styles_of` meets its contract. Assumes nothing.
-use borrow.Author.Rules.{rules}
 use Rattle.segments.proofs.decoding.styles_of.Goals as goal
 
 pub returns : goal.returns

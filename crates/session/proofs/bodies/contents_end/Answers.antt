@@ -1,5 +1,4 @@
 -- `session::bodies::contents_end` meets its contract. Assumes nothing.
-use borrow.Author.Rules.{rules}
 use native.Mathlib.Omega.{arith}
 use Rattle.sheet.proofs.Standing.{contents_end_lem}
 use Rattle.session.proofs.Places.{headed_at}

@@ -1,5 +1,4 @@
 -- `session::bodies::record_in` meets its contract. Assumes nothing.
-use borrow.Author.Rules.{rules}
 use Prim.Native.Nat.{ℕ, ◌+◌}
 use mathlib.Core.Path.{ap}
 use Rattle.buffer.specs.Bytes.{part}

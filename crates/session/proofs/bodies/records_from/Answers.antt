@@ -1,5 +1,4 @@
 -- `session::bodies::records_from` meets its contract. Assumes nothing.
-use borrow.Author.Rules.{rules}
 use native.Mathlib.Omega.{arith}
 use Rattle.session.specs.Walking.{records_from}
 use Rattle.session.proofs.Places.{headed_at}

@@ -1,5 +1,4 @@
 -- `session::bodies::template_in` meets its contract. Assumes nothing.
-use borrow.Author.Rules.{rules}
 use native.Mathlib.Omega.{arith}
 use Prim.Native.Nat.{◌+◌}
 use Rattle.buffer.specs.Bytes.{part}

@@ -1,7 +1,5 @@
 -- `session::opening::open_sheet` meets its contract. Assumes nothing.
-use borrow.Author.Rules.{rules}
 use native.Mathlib.Omega.{arith}
-use borrow.Author.Tests.{not-true, not-false}
 use mathlib.Core.Path.{sym, ap, ◌∙◌}
 use Rattle.settings.specs.Bits.{edition_of}
 use Rattle.session.specs.Walking.{tell_opened}

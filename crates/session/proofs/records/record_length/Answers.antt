@@ -1,5 +1,4 @@
 -- `session::records::record_length` meets its contract. Assumes nothing.
-use borrow.Author.Rules.{rules}
 use mathlib.Core.Path.{ap, ◌∙◌}
 use lib.ListN.{length}
 use Rattle.segments.specs.Pool.{chain_at}

@@ -1,5 +1,4 @@
 -- `session::walking::first_record` meets its contract. Assumes nothing.
-use borrow.Author.Rules.{rules}
 use native.Mathlib.Omega.{arith}
 use mathlib.Core.Path.{refl}
 use Rattle.session.proofs.Places.{headed_at, some_body, begins}

@@ -1,5 +1,4 @@
 -- `session::walking::next_record` meets its contract. Assumes nothing.
-use borrow.Author.Rules.{rules}
 use mathlib.Core.Path.{refl}
 use Rattle.session.proofs.Places.{goes_on_lem}
 use Rattle.session.proofs.walking.next_record.Goals as goal

@@ -1,14 +1,10 @@
 -- `session::walking::put_records` meets its contract. Assumes nothing.
-use borrow.Author.Rules.{rules}
-use native.Mathlib.Omega.{arith}
-use Prim.Native.Nat.{◌+◌, ◌≤◌}
-use mathlib.Core.Path.{◌≡◌, refl, sym, ap, ◌∙◌}
+use Prim.Native.Nat.{◌+◌}
+use mathlib.Core.Path.{◌≡◌}
 use lib.ListN.{length}
 use Rattle.buffer.specs.Buffer.{put_at}
-use Rattle.buffer.proofs.Writing.{put_nil, put_length}
 use Rattle.segments.specs.Pool.{chain_at}
-use Rattle.session.specs.Walking.{Standing, walk_on, line_at, lines_left, all_lines}
-use Rattle.session.proofs.Places.{lines_all, next_lies, fewer, lines_then, lines_count, lines_end, put_then}
+use Rattle.session.specs.Walking.{Standing, lines_left, all_lines}
 use Rattle.session.proofs.walking.put_records.Given as goal
 
 abbrev pub invariant-loop-w : goal.invariant-loop-w

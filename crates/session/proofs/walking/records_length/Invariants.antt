@@ -1,12 +1,9 @@
 -- `session::walking::records_length` meets its contract. Assumes nothing.
-use borrow.Author.Rules.{rules}
-use native.Mathlib.Omega.{arith}
 use Prim.Native.Nat.{◌+◌, ◌*◌, ◌≤◌}
-use mathlib.Core.Path.{◌≡◌, ap}
+use mathlib.Core.Path.{◌≡◌}
 use lib.ListN.{length}
 use Rattle.segments.specs.Pool.{chain_at}
 use Rattle.session.specs.Walking.{Standing, lines_left, all_lines}
-use Rattle.session.proofs.Places.{lines_all, next_lies, fewer, lines_count, lines_end}
 use Rattle.session.proofs.walking.records_length.Given as goal
 
 abbrev pub invariant-loop-w : goal.invariant-loop-w

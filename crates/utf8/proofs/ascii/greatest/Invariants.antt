@@ -1,12 +1,8 @@
 -- `utf8::ascii::greatest` meets its contract. The loop's invariant: the greatest of the bytes passed. Assumes nothing.
-use borrow.Author.Rules.{rules}
-use mathlib.Core.Path.{◌≡◌, ap, sym, ◌∙◌}
-use native.Mathlib.Omega.{arith}
-use Prim.Native.Nat.{ℕ, ◌≤◌, ◌+◌, ◌-◌}
+use mathlib.Core.Path.{◌≡◌}
+use Prim.Native.Nat.{◌≤◌, ◌+◌, ◌-◌}
 use Rattle.buffer.specs.Bytes.{part}
-use Rattle.buffer.proofs.Parts.{part_end}
 use Rattle.utf8.specs.Windows.{top_of}
-use Rattle.utf8.proofs.Greatest.{top_more}
 use Rattle.utf8.proofs.ascii.greatest.Given as goal
 
 abbrev pub invariant-loop-k : goal.invariant-loop-k

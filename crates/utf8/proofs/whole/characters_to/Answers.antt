@@ -1,12 +1,5 @@
 -- `utf8::whole::characters_to` meets its contract. The loop's invariant: whole characters up to i. Assumes nothing.
-use borrow.Author.Rules.{rules}
-use mathlib.Core.Path.{◌≡◌}
-use mathlib.Core.List.{[]}
-use Prim.Native.Nat.{◌≤◌, ◌-◌}
 use native.Mathlib.Omega.{arith}
-use lib.ListN.{length}
-use Rattle.utf8.specs.Utf8.{awaited}
-use Rattle.utf8.specs.Windows.{reached}
 use Rattle.utf8.proofs.whole.characters_to.Goals as goal
 
 pub returns-then-n-eq0 : goal.returns-then-n-eq0

@@ -1,9 +1,7 @@
 -- `utf8::whole::characters_to` meets its contract. The loop's invariant: whole characters up to i. Assumes nothing.
-use borrow.Author.Rules.{rules}
 use mathlib.Core.Path.{◌≡◌}
 use mathlib.Core.List.{[]}
 use Prim.Native.Nat.{◌≤◌, ◌-◌}
-use native.Mathlib.Omega.{arith}
 use lib.ListN.{length}
 use Rattle.utf8.specs.Utf8.{awaited}
 use Rattle.utf8.specs.Windows.{reached}

@@ -1,9 +1,7 @@
 -- `utf8::whole::of_four` meets its contract. Assumes nothing.
-use borrow.Author.Rules.{rules}
 use mathlib.Core.Path.{◌≡◌, refl, ap, sym, ◌∙◌}
 use mathlib.Core.List.{[], ◌∷◌}
 use native.Mathlib.Omega.{arith}
-use borrow.Author.Tests.{not-true, not-false}
 use mathlib.Core.Path.{subst}
 use mathlib.Core.Logic.{inr}
 use Prim.Native.Nat.{ℕ}

@@ -1,9 +1,7 @@
 -- `utf8::whole::of_three` meets its contract. Assumes nothing.
-use borrow.Author.Rules.{rules}
 use mathlib.Core.Path.{◌≡◌, refl, ap, sym, ◌∙◌}
 use mathlib.Core.List.{[]}
 use native.Mathlib.Omega.{arith}
-use borrow.Author.Tests.{not-true, not-false}
 use Prim.Native.Nat.{ℕ}
 use Rattle.utf8.specs.Utf8.{Awaited, awaited, begun, forms, step}
 use Rattle.utf8.proofs.Running.{step_broken}

@@ -1,7 +1,7 @@
 -- `utf8::windows::flaws_of_two` meets its contract. The loop's invariant: the places passed are judged. Assumes nothing.
 use borrow.Author.Rules.{rules}
 use mathlib.Core.Path.{◌≡◌, subst}
-use Prim.Native.Nat.{ℕ, ◌≤◌, ◌+◌, ◌-◌}
+use Prim.Native.Nat.{ℕ, ◌+◌}
 use native.Mathlib.Omega.{arith}
 use Rattle.utf8.specs.Windows.{Checked}
 use Rattle.utf8.proofs.Checking.{checked_none, checked_more}

@@ -1,10 +1,6 @@
 -- `utf8::windows::flaws_of_two` meets its contract. The loop's invariant: the places passed are judged. Assumes nothing.
-use borrow.Author.Rules.{rules}
-use mathlib.Core.Path.{◌≡◌, subst}
-use Prim.Native.Nat.{ℕ, ◌≤◌, ◌+◌, ◌-◌}
-use native.Mathlib.Omega.{arith}
+use Prim.Native.Nat.{◌≤◌, ◌+◌, ◌-◌}
 use Rattle.utf8.specs.Windows.{Checked}
-use Rattle.utf8.proofs.Checking.{checked_none, checked_more}
 use Rattle.utf8.proofs.windows.flaws_of_two.Given as goal
 
 abbrev pub invariant-loop-k : goal.invariant-loop-k

@@ -1,11 +1,9 @@
 -- `widths::counting::advance` meets its contract. Assumes nothing.
-use borrow.Author.Rules.{rules}
 use native.Mathlib.Omega.{arith}
 use mathlib.Core.Path.{◌≡◌, ap, sym, ◌∙◌}
 use Prim.Native.Nat.{ℕ, ◌/◌, ◌<◌}
 use native.Mathlib.Decide.{dec_lt}
 use Rattle.widths.specs.declared.Pending.{Pending}
-use Rattle.widths.specs.declared.Wides.{Wides}
 use Rattle.widths.proofs.Running.{advanced_trail, advanced_below, advanced_above}
 use Rattle.widths.proofs.counting.advance.Goals as goal
 

@@ -1,9 +1,6 @@
 -- `widths::counting::begun_by` meets its contract. Assumes nothing.
-use borrow.Author.Rules.{rules}
 use native.Mathlib.Omega.{arith}
-use mathlib.Core.Path.{◌≡◌, ap}
-use Prim.Native.Nat.{ℕ, ◌-◌}
-use Rattle.widths.specs.declared.Pending.{Pending}
+use Prim.Native.Nat.{◌-◌}
 use Rattle.widths.proofs.Running.{size_few}
 use Rattle.widths.proofs.counting.begun_by.Goals as goal
 

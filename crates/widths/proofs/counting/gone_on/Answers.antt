@@ -1,11 +1,8 @@
 -- `widths::counting::gone_on` meets its contract. Assumes nothing.
-use borrow.Author.Rules.{rules}
 use native.Mathlib.Omega.{arith}
-use mathlib.Core.Path.{◌≡◌, ap, sym, ◌∙◌}
+use mathlib.Core.Path.{ap, sym, ◌∙◌}
 use Prim.Native.Nat.{ℕ, ◌+◌, ◌-◌}
 use Rattle.characters.specs.Characters.{one_if}
-use Rattle.points.specs.Decoding.{with_six}
-use Rattle.widths.specs.declared.Wides.{Wides}
 use Rattle.widths.specs.Widths.{is_wide, none_begun}
 use Rattle.widths.proofs.Running.{gone_none, gone_last, gone_more, bits_few, bits_fewer, one_few}
 use Rattle.widths.proofs.counting.gone_on.Goals as goal

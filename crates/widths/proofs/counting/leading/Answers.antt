@@ -1,5 +1,4 @@
 -- `widths::counting::leading` meets its contract. Assumes nothing.
-use borrow.Author.Rules.{rules}
 use mathlib.Core.Path.{sym}
 use Rattle.widths.proofs.Running.{leading_one, leading_two, leading_three, leading_four}
 use Rattle.widths.proofs.counting.leading.Goals as goal

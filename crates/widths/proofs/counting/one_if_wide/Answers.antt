@@ -1,5 +1,4 @@
 -- `widths::counting::one_if_wide` meets its contract. Assumes nothing.
-use borrow.Author.Rules.{rules}
 use mathlib.Core.Path.{ap, sym, ◌∙◌}
 use Rattle.characters.specs.Characters.{one_if}
 use Rattle.widths.proofs.counting.one_if_wide.Goals as goal

@@ -2,9 +2,8 @@
 use borrow.Author.Rules.{rules}
 use native.Mathlib.Omega.{arith}
 use mathlib.Core.Path.{◌≡◌, refl, ap, sym, subst, ◌∙◌}
-use Prim.Native.Nat.{◌≤◌, ◌+◌, ◌-◌}
-use lib.ListN.{length, drop, get_or}
-use Rattle.widths.specs.declared.Pending.{Pending}
+use Prim.Native.Nat.{◌+◌}
+use lib.ListN.{drop, get_or}
 use Rattle.widths.specs.declared.Wides.{Wides}
 use Rattle.widths.specs.Widths.{advanced, ran}
 use Rattle.widths.specs.Fitting.{Fits}

@@ -1,14 +1,9 @@
 -- `widths::counting::run_over` meets its contract. The invariant: what the run over the rest gives from here is what it gives of the whole. Assumes nothing.
-use borrow.Author.Rules.{rules}
-use native.Mathlib.Omega.{arith}
-use mathlib.Core.Path.{◌≡◌, refl, ap, sym, subst, ◌∙◌}
+use mathlib.Core.Path.{◌≡◌}
 use Prim.Native.Nat.{◌≤◌, ◌+◌, ◌-◌}
-use lib.ListN.{length, drop, get_or}
-use Rattle.widths.specs.declared.Pending.{Pending}
-use Rattle.widths.specs.declared.Wides.{Wides}
-use Rattle.widths.specs.Widths.{advanced, ran}
+use lib.ListN.{length, drop}
+use Rattle.widths.specs.Widths.{ran}
 use Rattle.widths.specs.Fitting.{Fits}
-use Rattle.widths.proofs.Running.{ran_step, ran_end, one_a_byte, fits_advanced}
 use Rattle.widths.proofs.counting.run_over.Given as goal
 
 abbrev pub invariant-loop-i : goal.invariant-loop-i

@@ -1,5 +1,4 @@
 -- `widths::table::run_text` meets its contract: the code's table is that of the ranges. Assumes nothing.
-use borrow.Author.Rules.{rules}
 use mathlib.Core.Path.{refl}
 use Rattle.points.specs.Ranges.{ends}
 use Rattle.widths.specs.Wide.{wide}

@@ -1,5 +1,4 @@
 -- `wording::fixed::add_fixed` meets its contract. Assumes nothing.
-use borrow.Author.Rules.{rules}
 use Prim.Native.Nat.{ℕ, ◌+◌, ◌<◌, ◌^◌}
 use mathlib.Core.Path.{ap, sym, subst, ◌∙◌}
 use mathlib.Core.List.{List}

@@ -1,5 +1,4 @@
 -- `wording::fixed::fixed_len` meets its contract. Assumes nothing.
-use borrow.Author.Rules.{rules}
 use mathlib.Core.Path.{sym, ap, ◌∙◌}
 use lib.ListN.{length}
 use Rattle.buffer.proofs.Parts.{part_length}

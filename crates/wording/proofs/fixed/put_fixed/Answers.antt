@@ -1,5 +1,4 @@
 -- `wording::fixed::put_fixed` meets its contract. Assumes nothing.
-use borrow.Author.Rules.{rules}
 use Prim.Native.Nat.{ℕ, ◌+◌, ◌≤◌}
 use mathlib.Core.Path.{sym, subst}
 use mathlib.Core.List.{List}

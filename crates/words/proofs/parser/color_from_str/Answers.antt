@@ -1,5 +1,4 @@
 -- `color_from_str` meets its contract: by the law of looking up. Assumes nothing.
-use borrow.Author.Rules.{rules}
 use native.Mathlib.Omega.{arith}
 use Rattle.spelling.specs.Tables.{compared}
 use Rattle.spelling.proofs.Indexing.{listed, unlisted}

@@ -1,5 +1,4 @@
 -- `letter_metadata` meets its contract: each letter by one law. Assumes nothing.
-use borrow.Author.Rules.{rules}
 use native.Mathlib.Omega.{arith}
 use mathlib.Core.Path.{refl, sym}
 use Rattle.buffer.specs.Bytes.{same}

@@ -1,5 +1,4 @@
 -- `parse_color` meets its contract: by the law of looking up. Assumes nothing.
-use borrow.Author.Rules.{rules}
 use native.Mathlib.Omega.{arith}
 use mathlib.Core.Path.{sym, ◌∙◌}
 use Rattle.spelling.specs.Tables.{compared}

@@ -1,5 +1,4 @@
 -- `parse_format` meets its contract. Assumes nothing.
-use borrow.Author.Rules.{rules}
 use mathlib.Core.Path.{◌∙◌}
 use Rattle.words.specs.Words.{parameter_at}
 use Rattle.words.proofs.Answers.{format_first, format_stopped, format_other}

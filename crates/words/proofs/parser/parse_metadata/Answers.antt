@@ -1,5 +1,4 @@
 -- `parse_metadata` meets its contract. Assumes nothing.
-use borrow.Author.Rules.{rules}
 use native.Mathlib.Omega.{arith}
 use mathlib.Core.Path.{sym, ◌∙◌}
 use Rattle.words.specs.Words.{specifier_of, specifier_at}

@@ -1,5 +1,4 @@
 -- `parse_width_and_alignment` meets its contract: each alignment by one law. Assumes nothing.
-use borrow.Author.Rules.{rules}
 use native.Mathlib.Omega.{arith}
 use mathlib.Core.Path.{refl, sym, ◌∙◌}
 use Rattle.buffer.specs.Bytes.{same}
