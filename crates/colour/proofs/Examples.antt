@@ -24,8 +24,8 @@ use Rattle.colour.specs.Sequences.{visible}
 use Rattle.colour.specs.Formatting.{formatted}
 
 -- a format: width, alignment, padding, underlined or not, colour
-abbrev in_format_lem : ℕ → Alignment → Padding → Bool → Ink → Format
-in_format_lem w a z underlined i = record {
+abbrev format_with : ℕ → Alignment → Padding → Bool → Ink → Format
+format_with w a z underlined i = record {
   width = w;
   alignment = a;
   padding = z;
@@ -34,12 +34,12 @@ in_format_lem w a z underlined i = record {
 
 -- `é` is one character, padding stands inside the colour, the prefix comes again after a reset, and only the crate's mode counts it
 examples :
-    formatted (plain off) (in_format_lem 4 Left Space true (Inked Red)) (bytes "é")
-    ∷ formatted (plain off) (in_format_lem 7 Center Zero false Bare) (bytes "INFO")
-    ∷ formatted (coloured off) (in_format_lem 4 Right Zero true (Inked Red)) (bytes "ab")
-    ∷ formatted (coloured off) (in_format_lem 9 Left Space true Bare) (bytes "a\u{1b}[0mb")
-    ∷ formatted (straight off) (in_format_lem 9 Left Space true Bare) (bytes "a\u{1b}[0mb")
-    ∷ formatted (straight off) (in_format_lem 3 Right Space false Bare) (bytes "\u{1b}[31ma\u{1b}[0m")
+    formatted (plain off) (format_with 4 Left Space true (Inked Red)) (bytes "é")
+    ∷ formatted (plain off) (format_with 7 Center Zero false Bare) (bytes "INFO")
+    ∷ formatted (coloured off) (format_with 4 Right Zero true (Inked Red)) (bytes "ab")
+    ∷ formatted (coloured off) (format_with 9 Left Space true Bare) (bytes "a\u{1b}[0mb")
+    ∷ formatted (straight off) (format_with 9 Left Space true Bare) (bytes "a\u{1b}[0mb")
+    ∷ formatted (straight off) (format_with 3 Right Space false Bare) (bytes "\u{1b}[31ma\u{1b}[0m")
     ∷ []
     ≡ bytes "é   "
     ∷ bytes "0INFO00"
@@ -53,11 +53,11 @@ examples = refl
 
 -- by the places rule `壁` counts two, and the bytes inserted count as bytes by either rule
 by_either_rule :
-    formatted (plain off) (in_format_lem 6 Left Space false Bare) (bytes "壁B3")
-    ∷ formatted (plain (off_by Rule.Places)) (in_format_lem 6 Left Space false Bare) (bytes "壁B3")
-    ∷ formatted (plain (off_by Rule.Places)) (in_format_lem 7 Center Space false Bare) (bytes "壁")
-    ∷ formatted (coloured (off_by Rule.Places)) (in_format_lem 9 Left Space true Bare) (bytes "[\u{1b}[31m壁\u{1b}[0m]")
-    ∷ formatted (straight (off_by Rule.Places)) (in_format_lem 9 Left Space true Bare) (bytes "[\u{1b}[31m壁\u{1b}[0m]")
+    formatted (plain off) (format_with 6 Left Space false Bare) (bytes "壁B3")
+    ∷ formatted (plain (off_by Rule.Places)) (format_with 6 Left Space false Bare) (bytes "壁B3")
+    ∷ formatted (plain (off_by Rule.Places)) (format_with 7 Center Space false Bare) (bytes "壁")
+    ∷ formatted (coloured (off_by Rule.Places)) (format_with 9 Left Space true Bare) (bytes "[\u{1b}[31m壁\u{1b}[0m]")
+    ∷ formatted (straight (off_by Rule.Places)) (format_with 9 Left Space true Bare) (bytes "[\u{1b}[31m壁\u{1b}[0m]")
     ∷ []
     ≡ bytes "壁B3   "
     ∷ bytes "壁B3  "

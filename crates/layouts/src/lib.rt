@@ -126,6 +126,7 @@ fn run_at(from: usize, c: Spans, k: usize) -> Run
 }
 
 // A value's run is left out where it is empty. An empty head isn't: it gets its prefix and its reset.
+#[tactic(auto, unfolding(crate::specs::Runs::is_left_out))]
 fn is_left_out(x: Text) -> bool
     ensures { result ≡ is_left_out x }
 {
