@@ -26,9 +26,9 @@ fn ends_of_meaning() -> Vec<u32> {
     ranges.flat_map(|(first, last)| [number(first), number(last) + 1]).collect()
 }
 
-/// The same, as they stand in `const ENDS: [u32; 1522] = [ 0x41, 0x5B, .. ];`.
+/// The same, as they stand in `static ENDS: [u32; 1522] = [ 0x41, 0x5B, .. ];`.
 fn ends_of_code() -> Vec<u32> {
-    let begin = format!("const ENDS: [u32; {}] = [", 2 * RANGES);
+    let begin = format!("static ENDS: [u32; {}] = [", 2 * RANGES);
     let (_, rest) = CODE.split_once(&begin).expect("the table");
     let (table, _) = rest.split_once("];").expect("the end of the table");
     table.split(',').filter(|word| !word.trim().is_empty()).map(number).collect()

@@ -131,7 +131,7 @@ fn with_ends(text: &str, ranges: &[Range]) -> Option<String> {
         }
         lines.last_mut()?.push_str(&end);
     }
-    between(text, "const ENDS: [u32; ", "];", &format!("{}] = [\n{}\n", 2 * ranges.len(), lines.join("\n")))
+    between(text, "static ENDS: [u32; ", "];", &format!("{}] = [\n{}\n", 2 * ranges.len(), lines.join("\n")))
 }
 
 /// The text with this in place of what stands between the two marks.

@@ -1,4 +1,5 @@
 -- Answers and buffers by the room that there is, and the line of a record that passed its checks. Assumes nothing.
+use Rattle.std.specs.Prelude.{Result, Ok, Err}
 use Prim.Native.Nat.{ℕ, ◌≤◌}
 use mathlib.Core.Path.{◌≡◌, refl, sym, ap, subst, ◌∙◌}
 use mathlib.Core.Bool.{Bool, true, false}
@@ -30,12 +31,13 @@ use Rattle.checks.proofs.Passing.{passes}
 use Rattle.record.specs.Records.{Record}
 use Rattle.fields.specs.Worded.{Compares}
 use Rattle.fields.specs.Lines.{print_shown, record_shown, line_of}
-use Rattle.leaves.specs.Places.{row_length, places_of, compared_by, record_by, Short}
+use Rattle.leaves.specs.declared.Shown.{Shown}
+use Rattle.leaves.specs.Places.{record_by, Short, Lent}
 use Rattle.rows.specs.Texts.{segments_text}
 use Rattle.rows.specs.Rows.{Writable}
-use Rattle.packing.specs.declared.Answer.{Answer}
 use Rattle.answer.specs.Answers.{Outcome, line, refused, in_room, passed, record_outcome, buffer_after, answer_of, packed, by_template, outcome, is_call, call_outcome}
 use Rattle.settings.specs.Bits.{is_known, settings_of, edition_of, form_of}
+use Rattle.answer.specs.declared.Reading.{Reading}
 use Rattle.answer.specs.Rooms.{Accepted}
 use Rattle.packing.specs.Packing.{answer_in, packed_answer}
 
@@ -45,7 +47,7 @@ pub answer_in_room : (room : ℕ) (x : List ℕ) → answer_in room (length x) �
 unfolding answer_in in_room answer_of
 answer_in_room room x = by (leb (length x) room)
   where
-    by : (b : Bool) → ◌≡◌ {A = Answer} (elim b [ true ↦ Answer.Line (length x) | false ↦ Answer.Refused (Refusal.LineTooLong (length x)) ])
+    by : (b : Bool) → ◌≡◌ {A = Result ℕ Refusal} (elim b [ true ↦ Ok (length x) | false ↦ Err (Refusal.LineTooLong (length x)) ])
         (answer_of (elim b [ true ↦ line x | false ↦ refused (Refusal.LineTooLong (length x)) ]))
     by true = refl
     by false = refl
@@ -138,35 +140,27 @@ texts_short form l e =
       serial = omega (arith, k.serial.short);
     }
 
--- a row of the record's numbers
-module _ (cells t d : List ℕ) (n : ℕ) (p : Places) (numbers : List ℕ) (h : Accepted cells t d n p) (e : places_of numbers ≡ p) where
-  pub record_by_lem : record_by numbers d ≡ record_of (laid_by p d)
-  unfolding record_by
-  record_by_lem = rw e
+-- what is shown of a record that passed its checks
+module _ (r : Reading) (d : List ℕ) (x : Shown) (h : Accepted r d x.places) (k : Compares d x.places x.spans) where
+  pub lent : Lent d x
+  unfolding record_by record_of
+  lent = record { places = h.places; short = h.texts.message; compared = k }
 
-  short : length (record_by numbers d).message ≤ 4096
-  unfolding record_of
-  short = omega (arith, ap (λ (r : Record). length r.message) record_by_lem, h.texts.message)
-
-  pub writable : row_length ≤ length numbers → Compares d p (compared_by numbers) → Writable cells t d numbers n
-  writable g k = record {
-    readable = record {
-      pool = h.pool;
-      few = h.read.few;
-      lent = record { row = g; places = rw e h.places; short = short; compared = rw e k };
-    };
+  pub writable : Writable r.cells.now r.template.now d x r.count
+  writable = record {
+    readable = record { pool = h.pool; few = h.read.few; lent = lent };
     sound = h.read.sound;
     tidy = h.read.tidy;
     few = omega (arith, h.read.counted, h.read.few);
     low = h.read.low;
     template = h.template;
-    texts = rw e h.texts;
+    texts = h.texts;
   }
 
 -- ---- answers and buffers by the checks
 
 module _ (form : Form) (s : Settings) (t : List ℕ) (c : LogSegments) (l m : Laid) (e : l ≡ m) where
-  pub answer_passed : (room n : ℕ) (r : Answer) → record_refusal form l ≡ none → n ≡ length (line_of s t c (record_of l)) → r ≡ answer_in room n
+  pub answer_passed : (room n : ℕ) (r : Result ℕ Refusal) → record_refusal form l ≡ none → n ≡ length (line_of s t c (record_of l)) → r ≡ answer_in room n
       → r ≡ answer_of (record_outcome form s t c m room)
   answer_passed room n r h k a =
       a
@@ -183,7 +177,7 @@ module _ (form : Form) (s : Settings) (t : List ℕ) (c : LogSegments) (l m : La
       ∙ ap (buffer_after d) (sym (passed_outcome form s t c l (length d) h))
       ∙ ap (λ (x : Laid). buffer_after d (record_outcome form s t c x (length d))) e
 
-  pub answer_refused : (room : ℕ) (r : Refusal) → record_refusal form l ≡ some r → Answer.Refused r ≡ answer_of (record_outcome form s t c m room)
+  pub answer_refused : (room : ℕ) (r : Refusal) → record_refusal form l ≡ some r → Err r ≡ answer_of (record_outcome form s t c m room)
   unfolding answer_of
   answer_refused room r h =
       ap answer_of (sym (refused_outcome form s t c l room r h)) ∙ ap (λ (x : Laid). answer_of (record_outcome form s t c x room)) e

@@ -16,8 +16,7 @@ use Rattle.record.specs.Records.{Record}
 use Rattle.record.specs.Placed.{laid_by, PlacesWithin}
 use Rattle.record.specs.Contents.{record_of}
 use Rattle.comparisons.specs.declared.Spans.{Spans}
-use Rattle.comparisons.specs.declared.Compared.{Compared}
-use Rattle.comparisons.specs.declared.Compared.TheVariants.{Nothing, At}
+use Rattle.std.specs.Prelude.{Some, None}
 use Rattle.comparisons.specs.Comparisons.{Comparison, layout, laid_or_else}
 use Rattle.comparisons.specs.Places.{layout_by, SpansWithin}
 use Rattle.fields.specs.Worded.{Compares}
@@ -45,27 +44,18 @@ module _ (s : Settings) (r : Record) where
   print_small h = omega (arith, ap length print_text, message_small s r h)
 
 module _ (s : Settings) (d : List ℕ) (p : Places) where
-  pub print_bare : Compares d p Nothing → text_of s (print_shown (record_of (laid_by p d))) ≡ part p.message_from p.message_to d
+  pub print_bare : Compares d p None → text_of s (print_shown (record_of (laid_by p d))) ≡ part p.message_from p.message_to d
   unfolding layout_by message_text record_of laid_by
   print_bare k =
       let r = record_of (laid_by p d) in
       print_text s r ∙ ap (message_text s r.message) (none_laid (comparison_of r) (sym k.laid))
 
-  pub print_laid : (c : Spans) → Compares d p (At c) → text_of s (print_shown (record_of (laid_by p d))) ≡ laid_text s d p.message_from c
+  pub print_laid : (c : Spans) → Compares d p (Some c) → text_of s (print_shown (record_of (laid_by p d))) ≡ laid_text s d p.message_from c
   unfolding layout_by
   print_laid c k =
       let r = record_of (laid_by p d) in
       print_text s r ∙ text_laid s r.message (comparison_of r) _ (sym k.laid)
 
-  pub print_within : (c : Spans) → Compares d p (At c) → PlacesWithin (length d) p → SpansWithin p.message_from (length d) (At c)
+  pub print_within : (c : Spans) → Compares d p (Some c) → PlacesWithin (length d) p → SpansWithin p.message_from (length d) (Some c)
   print_within c k h = let w = k.within in
       (w.0, ((w.1.0.0, omega (arith, w.1.0.1, h.message.1)), w.1.1))
-
--- ---- the places as numbers
-
-abbrev pub from_numbers : Spans → Compared
-from_numbers x = elim (not (eqb x.left.from 0)) [ true ↦ At x | false ↦ Nothing ]
-
-pub from_numbers_lem : (x : Spans) (from to : ℕ) → SpansWithin from to (At x) → from_numbers x ≡ At x
-from_numbers_lem x from to w =
-    ap (λ (b : Bool). elim (not b) as (λ (_ : Bool). Compared) [ true ↦ At x | false ↦ Nothing ]) (ne_eqb x.left.from 0 (λ z. omega (arith, w.0.1)))

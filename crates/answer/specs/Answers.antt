@@ -1,10 +1,9 @@
 -- What a line call answers, and what it leaves in the lent buffer. Assumes nothing.
-use Rattle.std.specs.Prelude.{ℕ, ◌+◌, ◌*◌, ◌≡◌, Bool, true, false, ◌&&◌, List, [], ◌∷◌, leb, length}
+use Rattle.std.specs.Prelude.{ℕ, ◌+◌, ◌*◌, ◌≡◌, Bool, true, false, ◌&&◌, Result, Ok, Err, List, leb, length}
 use Rattle.buffer.specs.Buffer.{put_at}
 use Rattle.buffer.specs.Table.{Maybe, none, some}
 use Rattle.refusals.specs.declared.Refusal.{Refusal}
 use Rattle.refusals.specs.Numbers.{number, value_with}
-use Rattle.packing.specs.declared.Answer.{Answer}
 use Rattle.colour.specs.declared.Settings.{Settings}
 use Rattle.settings.specs.Bits.{is_known, settings_of, edition_of, form_of}
 use Rattle.segments.specs.Segments.{LogSegments}
@@ -78,6 +77,6 @@ abbrev pub line_entry : List ℕ → ℕ → List ℕ → List ℕ → Outcome
 line_entry t settings d lent = call_outcome settings t d (length lent)
 
 -- what the code's answer says of an outcome: a line by its length
-unfoldable pub answer_of : Outcome → Answer
-answer_of (line s) = Answer.Line (length s)
-answer_of (refused r) = Answer.Refused r
+unfoldable pub answer_of : Outcome → Result ℕ Refusal
+answer_of (line s) = Ok (length s)
+answer_of (refused r) = Err r

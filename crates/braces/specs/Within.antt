@@ -1,10 +1,9 @@
 -- Scaffolding, for proofs alone: where a brace that closes does so. Assumes nothing.
-use Rattle.std.specs.Prelude.{ℕ, ◌≤◌, ◌<◌}
-use Rattle.braces.specs.declared.Closing.{Closing}
-use Rattle.braces.specs.declared.Closing.TheVariants.{At, Nowhere, HalfEscape}
+use Rattle.std.specs.Prelude.{ℕ, ◌≤◌, ◌<◌, Some, None, Ok, Err}
+use Rattle.braces.specs.Braces.{Closing}
 
 -- a brace that closes does so before `to`
 unfoldable pub ClosingWithin : ℕ → ℕ → Closing → Type 0
-ClosingWithin from to (At c) = (from ≤ c) × (c < to)
-ClosingWithin from to Nowhere = Unit {0}
-ClosingWithin from to HalfEscape = Unit {0}
+ClosingWithin from to (Ok (Some c)) = (from ≤ c) × (c < to)
+ClosingWithin from to (Ok None) = Unit {0}
+ClosingWithin from to (Err r) = Unit {0}

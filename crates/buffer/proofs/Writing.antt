@@ -5,8 +5,9 @@ use Prim.Native.Nat.{ℕ, suc, ◌+◌, ◌-◌, ◌<◌, ◌≤◌}
 use native.Mathlib.Nat.{add-zero}
 use native.Mathlib.Numerals.{add-one}
 use native.Mathlib.Omega.{arith}
-use lib.ListN.{length, take, drop, get_or, set, take-append-drop, length-append, length-drop, replicate, length-replicate, replicate-append-replicate}
+use lib.ListN.{length, take, drop, get_or, set, take-append-drop, length-append, length-drop}
 use lib.Seq.{drop-cons, take-suc, length-take-le, take_all, take_at, drop_at, set_at, drop-drop, drop-append-add, take-append-le, take-take}
+use borrow.Rule.Slice.PartMut.{put_mid, Post-is}
 use Rattle.buffer.specs.Bytes.{part}
 use Rattle.buffer.specs.Buffer.{put_at}
 
@@ -20,6 +21,13 @@ front_length d at s h = omega (arith, length-append (take at d) s, length-take-l
 put_front : (d : List ℕ) (at : ℕ) (s : List ℕ) → put_at d at s ≡ front d at s ++ drop (at + length s) d
 unfolding put_at
 put_front d at s = sym (append_assoc (take at d) s (drop (at + length s) d))
+
+-- what a write to the part of d from `at` up to e leaves
+pub put_part : (d : List ℕ) (at e : ℕ) (y s : List ℕ) → y ≡ s → e ≡ at + length s → put_mid at (e - at) d y ≡ put_at d at s
+unfolding put_at
+put_part d at e y s q h =
+    ap (λ (l : List ℕ). take at d ++ (y ++ l)) (Post-is at e d (omega arith) ∙ ap (λ (n : ℕ). drop n d) h)
+    ∙ ap (λ (l : List ℕ). take at d ++ (l ++ drop (at + length s) d)) q
 
 -- to write nothing changes nothing
 pub put_nil : (d : List ℕ) (at : ℕ) → put_at d at [] ≡ d
@@ -69,14 +77,6 @@ module _ (d m : List ℕ) (i : ℕ) (f : length m ≤ length d) where
 
   pub copy_done : (e : List ℕ) → e ≡ put_at d 0 (take i m) → length m ≤ i → e ≡ put_at d 0 m
   copy_done e q h = q ∙ ap (put_at d 0) (take_all i m h)
-
--- one turn of a fill
-pub fill_next : (d : List ℕ) (at n b i : ℕ) → i < n → at + n ≤ length d → set (put_at d at (replicate i b)) (at + i) b ≡ put_at d at (replicate (i + 1) b)
-fill_next d at n b i h g =
-    let l : length (replicate i b) ≡ i = length-replicate i b in
-    ap (λ (k : ℕ). set (put_at d at (replicate i b)) (at + k) b) (sym l)
-    ∙ put_snoc d at (replicate i b) b (omega arith)
-    ∙ ap (put_at d at) (replicate-append-replicate i 1 b)
 
 -- two writes, the second where the first ends, are one of the joined bytes
 pub put_put : (d : List ℕ) (at m : ℕ) (s t : List ℕ) → m ≡ at + length s → at + (length s + length t) ≤ length d → put_at (put_at d at s) m t ≡ put_at d at (s ++ t)

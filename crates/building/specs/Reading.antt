@@ -1,6 +1,6 @@
 -- Reading a template (document 01, "Reading a template"). A template t is read from a place i up to an end e; so many segments are made
 -- before. Assumes nothing.
-use Rattle.std.specs.Prelude.{ℕ, zero, suc, ◌+◌, ◌-◌, Bool, true, false, not, ◌||◌, List, eqb, ltb, length}
+use Rattle.std.specs.Prelude.{Some, None, Ok, Err, ℕ, zero, suc, ◌+◌, ◌-◌, Bool, true, false, not, ◌||◌, List, eqb, ltb, length}
 use Rattle.buffer.specs.Bytes.{byte}
 use Rattle.buffer.specs.Table.{Maybe, none, some}
 use Rattle.refusals.specs.declared.Refusal.{Refusal}
@@ -9,11 +9,10 @@ use Rattle.runs.specs.Runs.{stands, run_end}
 use Rattle.words.specs.Trying.{Tried, fit, misfit, refused, ◌or_else◌, ◌then◌, repeated, listed}
 use Rattle.words.specs.Words.{specifier_at, parameter_at}
 use Rattle.parts.specs.declared.Parts.{Parts}
-use Rattle.braces.specs.declared.Closing.{Closing}
-use Rattle.segments.specs.Segments.{LogSegment, LogSegments, text, specifier, group, ◌and_then◌, any_specifier}
+use Rattle.segments.specs.Segments.{LogSegment, LogSegments, text, group, ◌and_then◌, any_specifier}
 use Rattle.segments.specs.Segments as segments
 use Rattle.parts.specs.Parts.{no_parts, has_specifier, with_specifier, with_parameter, segment_of}
-use Rattle.braces.specs.Braces.{closing}
+use Rattle.braces.specs.Braces.{Closing, closing}
 
 -- ---- segments are made
 
@@ -175,9 +174,9 @@ group_at t brace_at i e made = repeated (piece_at t brace_at e) (e - i) i (no_gr
 
 -- "No match: the brace doesn't fit. Bytes of its content left unread are dropped"
 unfoldable pub brace_to : Reader → ℕ → ℕ → Closing → Tried Made
-brace_to inside i made (Closing.At c) = inside (i + 1) c made then λ x j. fit x (c + 1)
-brace_to inside i made Closing.Nowhere = misfit
-brace_to inside i made Closing.HalfEscape = refused Refusal.HalfEscape
+brace_to inside i made (Ok (Some c)) = inside (i + 1) c made then λ x j. fit x (c + 1)
+brace_to inside i made (Ok None) = misfit
+brace_to inside i made (Err r) = refused r
 
 -- a brace tried at i: `{`, its content, `}`
 unfoldable pub brace_at : List ℕ → Reader → Reader

@@ -1,60 +1,55 @@
 -- Scaffolding, for proofs alone: what each case of the readers' answers says, and what a reader keeps besides its answer. Assumes nothing.
-use Rattle.std.specs.Prelude.{ℕ, ◌+◌, ◌-◌, ◌*◌, ◌≤◌, ◌<◌, ◌≡◌, Bool, true, false, ◌||◌, List, length, take}
+use Rattle.refusals.specs.declared.Refusal.{Refusal}
+use Rattle.std.specs.Prelude.{Option, Result, ℕ, ◌+◌, ◌-◌, ◌≤◌, ◌<◌, ◌≡◌, Bool, true, false, ◌||◌, List, length, take}
 use Rattle.words.specs.Words.{parameter_at}
-use Rattle.words.specs.Trying.{Tried, fit, misfit, refused, ◌or_else◌, ◌then◌, further}
+use Rattle.words.specs.Within.{told, told_read, Fitting}
+use Rattle.words.specs.Trying.{Tried, fit, ◌or_else◌, ◌then◌, further}
+use Rattle.segments.specs.declared.Cell.{Cell}
 use Rattle.segments.specs.Segments.{any_specifier}
 use Rattle.segments.specs.Sizes.{size, sizes, Narrow, Low, Lows}
 use Rattle.segments.specs.Pool.{segment_at, chain_at, back, Sound, Tidy}
 use Rattle.parts.specs.declared.Parts.{Parts}
-use Rattle.building.specs.declared.PartsRead.{PartsRead}
-use Rattle.building.specs.declared.Reading.{Reading}
 use Rattle.building.specs.declared.Inner.{Inner}
 use Rattle.building.specs.declared.Items.{Items}
-use Rattle.building.specs.declared.ItemRead.{ItemRead}
 use Rattle.building.specs.declared.Pieces.{Pieces}
-use Rattle.building.specs.declared.PieceRead.{PieceRead}
 use Rattle.parts.specs.Parts.{with_parameter}
 use Rattle.building.specs.Reading.{Made, Taken, nothing, one, several, Content, Group, text_at, word_at, inner_at, with_words, with_segment, with_member, with_asked, percent_at, built, separator, item_in}
 
 -- ---- what the answers say
 
+-- what readers answer: the place after what fits and what it is, that nothing fits, or a refusal
+abbrev pub Read : Type 0 → Type 0
+Read A = Result (Option (ℕ × A)) Refusal
+
 -- a list of words
-unfoldable pub tell_parts : PartsRead → Tried Parts
-tell_parts (PartsRead.Fit j p) = fit p j
-tell_parts PartsRead.Misfit = misfit
-tell_parts (PartsRead.Refused r) = refused r
+abbrev pub tell_parts : Read Parts → Tried Parts
+tell_parts = told_read
 
 -- a segment: the one made last
-unfoldable pub last_made : List ℕ → ℕ → Made
+unfoldable pub last_made : List Cell → ℕ → Made
 last_made cells k = record { segment = segment_at cells (k - 1); made = k }
 
-unfoldable pub tell : Reading → List ℕ → Tried Made
-tell (Reading.Fit j k) cells = fit (last_made cells k) j
-tell Reading.Misfit cells = misfit
-tell (Reading.Refused r) cells = refused r
+abbrev pub tell : Read ℕ → List Cell → Tried Made
+tell r cells = told (last_made cells) r
 
 -- what a content has taken: where it is one segment, the one made last
-unfoldable pub tell_inner : Inner → ℕ → List ℕ → Taken
+unfoldable pub tell_inner : Inner → ℕ → List Cell → Taken
 tell_inner Inner.Nothing made cells = nothing
 tell_inner Inner.One made cells = one (segment_at cells (made - 1))
 tell_inner Inner.Several made cells = several
 
-unfoldable pub tell_items : Items → List ℕ → Content
+unfoldable pub tell_items : Items → List Cell → Content
 tell_items c cells = record { parts = c.parts; taken = tell_inner c.inner c.made cells; made = c.made }
 
-unfoldable pub tell_item : ItemRead → List ℕ → Tried Content
-tell_item (ItemRead.Fit j c) cells = fit (tell_items c cells) j
-tell_item ItemRead.Misfit cells = misfit
-tell_item (ItemRead.Refused r) cells = refused r
+abbrev pub tell_item : Read Items → List Cell → Tried Content
+tell_item r cells = told (λ c. tell_items c cells) r
 
 -- a group so far: its members are those back from the last
-unfoldable pub tell_pieces : Pieces → List ℕ → Group
+unfoldable pub tell_pieces : Pieces → List Cell → Group
 tell_pieces g cells = record { members = chain_at cells g.last; parts = g.parts; made = g.made }
 
-unfoldable pub tell_piece : PieceRead → List ℕ → Tried Group
-tell_piece (PieceRead.Fit j g) cells = fit (tell_pieces g cells) j
-tell_piece PieceRead.Misfit cells = misfit
-tell_piece (PieceRead.Refused r) cells = refused r
+abbrev pub tell_piece : Read Pieces → List Cell → Tried Group
+tell_piece r cells = told (λ g. tell_pieces g cells) r
 
 -- ---- parts of the readers that have functions of their own
 
@@ -79,12 +74,6 @@ built_of c j = built c.parts c.made j c.taken
 abbrev pub further_built : ℕ → Bool → List ℕ → ℕ → ℕ → ℕ → Content → Tried Made
 further_built d even t e m i c = further (separator even) t e (item_in d even t e) m i c then built_of
 
--- what words make of an item
-unfoldable pub item_of : Items → PartsRead → ItemRead
-item_of c (PartsRead.Fit j p) = ItemRead.Fit j (record { parts = p; inner = c.inner; made = c.made })
-item_of c PartsRead.Misfit = ItemRead.Misfit
-item_of c (PartsRead.Refused r) = ItemRead.Refused r
-
 -- an item with one segment more, the last of k
 unfoldable pub next_inner : Inner → Inner
 next_inner Inner.Nothing = Inner.One
@@ -101,24 +90,22 @@ joined_by g direct k = record { parts = g.parts; last = k; direct = g.direct || 
 -- ---- what is kept
 
 -- room for 64 segments, of which n are made; one that is made next may link back as asked
-pub record Room (cells : List ℕ) (n link : ℕ) : Type 0 where
-  pub room : 512 ≤ length cells
+pub record Room (cells : List Cell) (n link : ℕ) : Type 0 where
+  pub room : 64 ≤ length cells
   pub few : n ≤ 64
   pub linked : link ≤ n
   pub sound : Sound cells n
 
 -- what is made from n up to k is tidy where what is made up to n is, and the link of the segment leads to the one made last, or nowhere
-abbrev pub StaysTidy : ℕ → ℕ → ℕ → List ℕ → Type 0
+abbrev pub StaysTidy : ℕ → ℕ → ℕ → List Cell → Type 0
 StaysTidy n k link cells = Tidy cells n → (0 < link → link ≡ n) → Tidy cells k
 
 -- words that fit end from lo up to `to`
-unfoldable pub PartsWithin : ℕ → ℕ → PartsRead → Type 0
-PartsWithin lo to (PartsRead.Fit j p) = (lo ≤ j) × ((j ≤ to) × Narrow p.format.width)
-PartsWithin lo to PartsRead.Misfit = Unit {0}
-PartsWithin lo to (PartsRead.Refused r) = Unit {0}
+abbrev pub PartsWithin : ℕ → ℕ → Read Parts → Type 0
+PartsWithin lo to = Fitting (λ j p. (lo ≤ j) × ((j ≤ to) × Narrow p.format.width))
 
 -- a segment that fits: it ends from lo up to `to`, is the last of k, begins where n were made, links back as asked and stands at most d deep
-pub record Fitted (lo to n link d : ℕ) (cells : List ℕ) (j k : ℕ) : Type 0 where
+pub record Fitted (lo to n link d : ℕ) (cells : List Cell) (j k : ℕ) : Type 0 where
   pub from : lo ≤ j
   pub end : j ≤ to
   pub more : n + 1 ≤ k
@@ -129,18 +116,16 @@ pub record Fitted (lo to n link d : ℕ) (cells : List ℕ) (j k : ℕ) : Type 0
   pub sound : Sound cells k
   pub tidy : StaysTidy n k link cells
 
-unfoldable pub ReadingWithin : ℕ → ℕ → ℕ → ℕ → ℕ → List ℕ → Reading → Type 0
-ReadingWithin lo to n link d cells (Reading.Fit j k) = Fitted lo to n link d cells j k
-ReadingWithin lo to n link d cells Reading.Misfit = Unit {0}
-ReadingWithin lo to n link d cells (Reading.Refused r) = Unit {0}
+abbrev pub ReadingWithin : ℕ → ℕ → ℕ → ℕ → ℕ → List Cell → Read ℕ → Type 0
+ReadingWithin lo to n link d cells = Fitting (λ j k. Fitted lo to n link d cells j k)
 
 -- the segments made before stand as they were
-pub record Keeps (lo to n link d : ℕ) (before after : List ℕ) (r : Reading) : Type 0 where
-  pub front : take (8 * n) after ≡ take (8 * n) before
+pub record Keeps (lo to n link d : ℕ) (before after : List Cell) (r : Read ℕ) : Type 0 where
+  pub front : take n after ≡ take n before
   pub within : ReadingWithin lo to n link d after r
 
 -- what a content has taken, having begun with n segments
-unfoldable pub InnerKeeps : ℕ → ℕ → ℕ → List ℕ → ℕ → Inner → Type 0
+unfoldable pub InnerKeeps : ℕ → ℕ → ℕ → List Cell → ℕ → Inner → Type 0
 InnerKeeps n link d cells made Inner.Nothing = made ≡ n
 InnerKeeps n link d cells made Inner.One = (n + 1 ≤ made) × ((back cells (made - 1) ≡ link) × ((size (segment_at cells (made - 1)) + n ≡ made) × (Low d (segment_at cells (made - 1)) × StaysTidy n made link cells)))
 InnerKeeps n link d cells made Inner.Several = Unit {0}
@@ -157,26 +142,24 @@ pub record ItemsReady (c : Items) : Type 0 where
   pub taken : InnerMade c.made c.inner
 
 -- what they have, having begun with n segments
-pub record ItemsKeep (n link d : ℕ) (cells : List ℕ) (c : Items) : Type 0 where
+pub record ItemsKeep (n link d : ℕ) (cells : List Cell) (c : Items) : Type 0 where
   pub ready : ItemsReady c
   pub least : n ≤ c.made
   pub few : c.made ≤ 64
   pub sound : Sound cells c.made
   pub inner : InnerKeeps n link d cells c.made c.inner
 
-unfoldable pub ItemWithin : ℕ → ℕ → ℕ → ℕ → ℕ → List ℕ → ItemRead → Type 0
-ItemWithin lo to n link d cells (ItemRead.Fit j c) = (lo ≤ j) × ((j ≤ to) × ItemsKeep n link d cells c)
-ItemWithin lo to n link d cells ItemRead.Misfit = Unit {0}
-ItemWithin lo to n link d cells (ItemRead.Refused r) = Unit {0}
+abbrev pub ItemWithin : ℕ → ℕ → ℕ → ℕ → ℕ → List Cell → Read Items → Type 0
+ItemWithin lo to n link d cells = Fitting (λ j c. (lo ≤ j) × ((j ≤ to) × ItemsKeep n link d cells c))
 
 -- what a group has
-pub record PiecesReady (cells : List ℕ) (g : Pieces) : Type 0 where
+pub record PiecesReady (cells : List Cell) (g : Pieces) : Type 0 where
   pub narrow : Narrow g.parts.format.width
   pub last : g.last ≤ g.made
   pub direct : g.direct ≡ any_specifier (chain_at cells g.last)
 
 -- what it has, having begun with n segments
-pub record PiecesKeep (n d : ℕ) (cells : List ℕ) (g : Pieces) : Type 0 where
+pub record PiecesKeep (n d : ℕ) (cells : List Cell) (g : Pieces) : Type 0 where
   pub ready : PiecesReady cells g
   pub few : g.made ≤ 64
   pub sound : Sound cells g.made
@@ -185,21 +168,19 @@ pub record PiecesKeep (n d : ℕ) (cells : List ℕ) (g : Pieces) : Type 0 where
   pub linked : 0 < g.last → g.last ≡ g.made
   pub tidy : Tidy cells n → Tidy cells g.made
 
-unfoldable pub PieceWithin : ℕ → ℕ → ℕ → ℕ → List ℕ → PieceRead → Type 0
-PieceWithin lo to n d cells (PieceRead.Fit j g) = (lo ≤ j) × ((j ≤ to) × PiecesKeep n d cells g)
-PieceWithin lo to n d cells PieceRead.Misfit = Unit {0}
-PieceWithin lo to n d cells (PieceRead.Refused r) = Unit {0}
+abbrev pub PieceWithin : ℕ → ℕ → ℕ → ℕ → List Cell → Read Pieces → Type 0
+PieceWithin lo to n d cells = Fitting (λ j g. (lo ≤ j) × ((j ≤ to) × PiecesKeep n d cells g))
 
 -- ---- what making a segment at j keeps, wherever it began: of words with `instead` where they make none, of a content, of a group
 
-abbrev pub MakeKeeps : ℕ → ℕ → ℕ → List ℕ → List ℕ → Reading → Reading → Type 0
+abbrev pub MakeKeeps : ℕ → ℕ → ℕ → List Cell → List Cell → Read ℕ → Read ℕ → Type 0
 MakeKeeps j n link before after instead r =
     (lo to d : ℕ) → lo ≤ j → j ≤ to → ReadingWithin lo to n link d after instead → Keeps lo to n link d before after r
 
-abbrev pub BuildKeeps : ℕ → ℕ → List ℕ → List ℕ → Items → Reading → Type 0
+abbrev pub BuildKeeps : ℕ → ℕ → List Cell → List Cell → Items → Read ℕ → Type 0
 BuildKeeps j link before after c r =
     (lo to n d : ℕ) → lo ≤ j → j ≤ to → ItemsKeep n link d before c → Keeps lo to n link d before after r
 
-abbrev pub GroupKeeps : ℕ → ℕ → List ℕ → List ℕ → Pieces → Reading → Type 0
+abbrev pub GroupKeeps : ℕ → ℕ → List Cell → List Cell → Pieces → Read ℕ → Type 0
 GroupKeeps j link before after g r =
     (lo to n d : ℕ) → lo ≤ j → j ≤ to → d + 1 ≤ 8 → PiecesKeep n d before g → Keeps lo to n link (d + 1) before after r

@@ -1,4 +1,4 @@
-// What readers answer, and the segments that words and pieces add up to (in the crate: `build_log_segment`).
+// What contents and groups have given so far, and the segments that words and pieces add up to (in the crate: `build_log_segment`).
 #![tactic(auto)]
 
 ghost use Rattle.std.specs.Prelude.{◌≡◌};
@@ -7,27 +7,13 @@ ghost use Rattle.parts.specs.Parts.{segment_of};
 ghost use Rattle.building.specs.Reading.{make_or, closed};
 ghost use Rattle.building.specs.Told.{tell, tell_items, tell_pieces, built_of, Room, ItemsReady, PiecesReady, MakeKeeps, BuildKeeps, GroupKeeps};
 
-use parts::{Named, Parts};
+use parts::Parts;
 use refusals::Refusal;
+use segments::Cell;
+use words::Read;
 
-// What a list of words answers.
-#[derive(Clone, Copy)]
-pub enum PartsRead {
-    Fit(usize, Parts),
-    Misfit,
-    Refused(Refusal),
-}
-
-// What a reader of segments answers: it fits (the place after it, and how many segments are made: it is the last of them), it doesn't fit,
-// or the template is refused.
-#[derive(Clone, Copy)]
-pub enum Reading {
-    Fit(usize, usize),
-    Misfit,
-    Refused(Refusal),
-}
-
-// The group or inner segment that a content takes: where there is one, it is the segment made last.
+// The group or inner segment that a content takes: where there is one, it is the segment made last. No `Option` (d): of several none is taken, and it is told
+// apart from having none.
 #[derive(Clone, Copy)]
 pub enum Inner {
     Nothing,
@@ -43,14 +29,8 @@ pub struct Items {
     pub inner: Inner,
 }
 
-#[derive(Clone, Copy)]
-pub enum ItemRead {
-    Fit(usize, Items),
-    Misfit,
-    Refused(Refusal),
-}
-
-// What the pieces of a group have given so far: the link to its last member (0: none), and whether a member is a specifier.
+// What the pieces of a group have given so far: the link to its last member, and whether a member is a specifier.
+// A link is a number, 0 for none, as it stands in a cell of the pool (d).
 #[derive(Clone, Copy)]
 pub struct Pieces {
     pub last: usize,
@@ -59,91 +39,66 @@ pub struct Pieces {
     pub direct: bool,
 }
 
-#[derive(Clone, Copy)]
-pub enum PieceRead {
-    Fit(usize, Pieces),
-    Misfit,
-    Refused(Refusal),
-}
-
-// The segment of a list of words, made; `instead` where the words make none.
+// The segment of a list of words, made, as the last of so many; `instead` where the words make none. What it is given stays apart, as in reader (d).
+#[tactic(auto, unfolding(words::specs::Within::told, words::specs::Within::Fitting, crate::specs::Reading::make_or, crate::specs::Reading::make, parts::specs::Parts::segment_of, parts::specs::Parts::specified))]
+#[inline(always)]
 pub fn make_specified(
     p: Parts,
     link: usize,
     j: usize,
-    cells: &mut [usize],
+    cells: &mut [Cell],
     n: usize,
-    instead: Reading,
-) -> Reading
+    instead: Read<usize>,
+) -> Read<usize>
     requires { Room cells.old n link × Narrow p.format.width }
     ensures cells_after { tell result cells.new ≡ make_or (tell instead cells.new) n j (segment_of p) }
     ensures keeps { MakeKeeps j n link cells.old cells.new instead result }
 {
+    let Some(m) = p.metadata else {
+        return instead;
+    };
     if p.twice {
         return instead;
     }
-    let named = p.metadata;
-    match named {
-        Named::Nothing => instead,
-        Named::Specifier(m) => {
-            if 64 <= n {
-                return Reading::Refused(Refusal::TooManySegments);
-            }
-            let f = p.format;
-            pool::put_specifier(cells, n, link, m, f);
-            Reading::Fit(j, n + 1)
-        }
+    if 64 <= n {
+        return Err(Refusal::TooManySegments);
     }
+    pool::put_specifier(cells, n, link, m, p.format);
+    Ok(Some((j, n + 1)))
 }
 
 // A content's segment: the one that it took, or the one that its words make.
-pub fn build_log_segment(c: Items, link: usize, j: usize, cells: &mut [usize]) -> Reading
+#[tactic(auto, unfolding(words::specs::Within::told, words::specs::Within::Fitting, crate::specs::Reading::built, crate::specs::Told::built_of, crate::specs::Told::tell_items, crate::specs::Told::tell_inner, crate::specs::Told::last_made))]
+pub fn build_log_segment(c: Items, link: usize, j: usize, cells: &mut [Cell]) -> Read<usize>
     requires { Room cells.old c.made link × ItemsReady c }
     ensures cells_after { tell result cells.new ≡ built_of (tell_items c cells.old) j }
     ensures keeps { BuildKeeps j link cells.old cells.new c result }
 {
-    let p = c.parts;
-    let inner = c.inner;
-    match inner {
-        Inner::Nothing => make_specified(
-            p,
-            link,
-            j,
-            cells,
-            c.made,
-            Reading::Refused(Refusal::Failure),
-        ),
+    match c.inner {
+        Inner::Nothing => { make_specified(c.parts, link, j, cells, c.made, Err(Refusal::Failure)) }
         Inner::One => {
-            let named = p.metadata;
-            if p.twice {
-                return Reading::Refused(Refusal::Failure);
+            if c.parts.twice || c.parts.metadata.is_some() {
+                return Err(Refusal::Failure);
             }
-            if parts::has_specifier(named) {
-                return Reading::Refused(Refusal::Failure);
-            }
-            Reading::Fit(j, c.made)
+            Ok(Some((j, c.made)))
         }
-        Inner::Several => Reading::Refused(Refusal::Failure),
+        Inner::Several => Err(Refusal::Failure),
     }
 }
 
 // A group, made of its pieces.
-pub fn build_group(g: Pieces, link: usize, j: usize, cells: &mut [usize]) -> Reading
+#[tactic(auto, unfolding(words::specs::Within::told, words::specs::Within::Fitting, crate::specs::Reading::closed, crate::specs::Reading::make, crate::specs::Told::tell_pieces, crate::specs::Told::last_made))]
+pub fn build_group(g: Pieces, link: usize, j: usize, cells: &mut [Cell]) -> Read<usize>
     requires { Room cells.old g.made link × PiecesReady cells.old g }
     ensures cells_after { tell result cells.new ≡ closed (tell_pieces g cells.old) j }
     ensures keeps { GroupKeeps j link cells.old cells.new g result }
 {
-    let p = g.parts;
-    if p.twice {
-        return Reading::Refused(Refusal::Failure);
-    }
-    if !g.direct {
-        return Reading::Refused(Refusal::Failure);
+    if g.parts.twice || !g.direct {
+        return Err(Refusal::Failure);
     }
     if 64 <= g.made {
-        return Reading::Refused(Refusal::TooManySegments);
+        return Err(Refusal::TooManySegments);
     }
-    let f = p.format;
-    pool::put_group(cells, g.made, link, g.last, f);
-    Reading::Fit(j, g.made + 1)
+    pool::put_group(cells, g.made, link, g.last, g.parts.format);
+    Ok(Some((j, g.made + 1)))
 }

@@ -15,7 +15,7 @@ pub enum Style {
     OneLine,
 }
 
-// The eight templates one after another, as they have different lengths; `\xe2\x94\x94\xe2\x94\x80` is `└─`.
+// The eight templates one after another, with their places and not as slices (a): a table of addresses would be data, and the archive promises to have none; `\xe2\x94\x94\xe2\x94\x80` is `└─`.
 const TEXT: [u8; 214] = *b"{L} {s}\
     {t} {L} {s}\
     {L} {s}\n\xe2\x94\x94\xe2\x94\x80 {m} @ {F}:{l}\

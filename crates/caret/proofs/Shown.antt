@@ -1,67 +1,109 @@
 -- Laws of a line that is shown, one for each case of the code. Assumes nothing.
 use Prim.Native.Nat.{ℕ, zero, suc, ◌+◌, ◌-◌, ◌≤◌, ◌<◌}
 use mathlib.Core.Path.{◌≡◌, refl, ap, sym, ◌∙◌}
-use mathlib.Core.Bool.{true, false}
+use mathlib.Core.Bool.{Bool, true, false}
 use mathlib.Core.List.{List, [], ◌∷◌, ◌++◌}
 use native.Mathlib.Omega.{arith}
-use lib.Dec.{leb}
-use lib.ListN.{length, get_or, drop, replicate, length-append, length-replicate}
-use lib.Seq.{drop-drop}
-use borrow.Author.Tests.{eq-eqb, ne_eqb, le-leb}
-use Rattle.utf8.specs.Utf8.{within}
-use Rattle.utf8.proofs.Ranges.{within_below}
+use lib.Dec.{eqb}
+use Rattle.std.proofs.Common.{◌≢◌}
+use Rattle.std.proofs.lemmas.List.{get_or-drop, get_or-take}
+use Rattle.runs.specs.Runs.{run_end}
+use lib.ListN.{length, get_or, take, drop, replicate, length-append, length-replicate}
+use lib.Seq.{drop-drop, length-take-le}
+use borrow.Author.Tests.{tests, eq-eqb, ne_eqb, eqb-true, eqb-false}
 use Rattle.buffer.specs.Bytes.{byte, bytes, part}
 use Rattle.buffer.specs.Buffer.{put_at, Puts}
 use Rattle.buffer.proofs.Parts.{drop_step, first_left, part_length}
 use Rattle.buffer.proofs.Writing.{join}
 use Rattle.characters.specs.Characters.{chars}
 use Rattle.characters.proofs.Counting.{chars_length}
+use Rattle.std.specs.Char.{is_ascii_control}
 use Rattle.caret.specs.Caret.{line_from, line_to, goes_on, is_control, ends_control, harmless, harmless_behind, shown_line, caret_line}
 
 -- ---- where a line begins and ends
 
-before : (t : List ℕ) (i : ℕ) → get_or t (suc i - 1) 0 ≡ get_or t i 0
-before t i = let e : suc i - 1 ≡ i = omega arith in ap (λ (k : ℕ). get_or t k 0) e
-
-pub from_here : (t : List ℕ) (i : ℕ) → 0 < i → get_or t (i - 1) 0 ≡ byte "\n" → line_from t i ≡ i
+-- behind the last newline before the place
+last_at : (t : List ℕ) (p i : ℕ) → i < p → get_or t i 0 ≡ byte "\n" → ((k : ℕ) → i < k → k < p → get_or t k 0 ≢ byte "\n") → i + 1 ≡ line_from t p
 unfolding line_from
-from_here t zero h q = refl
-from_here t (suc i) h q = rw (eq-eqb (get_or t i 0) (byte "\n") (sym (before t i) ∙ q), line_from)
+last_at t zero i h b after = absurd (omega arith)
+last_at t (suc p) i h b after = by (eqb i p) refl (λ l. last_at t p i l b (λ k m n. after k m (omega arith)))
+  where
+    by : (x : Bool) → eqb i p ≡ x → (i < p → i + 1 ≡ line_from t p) → i + 1 ≡ line_from t (suc p)
+    by true e rest =
+        let q : i ≡ p = eqb-true i p e in
+        let g : get_or t p 0 ≡ byte "\n" = ap (λ (k : ℕ). get_or t k 0) (sym q) ∙ b in
+        rw (eq-eqb (get_or t p 0) (byte "\n") g, line_from) (omega arith)
+    by false e rest =
+        let l : i < p = omega (arith, eqb-false i p e) in
+        rw (ne_eqb (get_or t p 0) (byte "\n") (after p l (omega arith)), line_from) (rest l)
 
-pub from_before : (t : List ℕ) (i : ℕ) → 0 < i → (get_or t (i - 1) 0 ≡ byte "\n" → ⊥) → line_from t i ≡ line_from t (i - 1)
+-- at the start where none is
+none_at : (t : List ℕ) (p : ℕ) → ((k : ℕ) → k < p → get_or t k 0 ≢ byte "\n") → 0 ≡ line_from t p
 unfolding line_from
-from_before t zero h q = refl
-from_before t (suc i) h q =
-    let e : i ≡ suc i - 1 = omega arith in rw (ne_eqb (get_or t i 0) (byte "\n") (λ z. q (before t i ∙ z)), line_from) (ap (line_from t) e)
+none_at t zero h = refl
+none_at t (suc p) h = rw (ne_eqb (get_or t p 0) (byte "\n") (h p (omega arith)), line_from) (none_at t p (λ k l. h k (omega arith)))
 
-pub from_start : (t : List ℕ) (i : ℕ) → i ≤ 0 → line_from t i ≡ 0
-unfolding line_from
-from_start t zero h = refl
-from_start t (suc i) h = absurd (omega arith)
+-- a run ends at the first newline, or at its end
+first_at : (t : List ℕ) (n p i : ℕ) → p ≤ i → i ≤ p + n → (i < p + n → get_or t i 0 ≡ byte "\n") → ((k : ℕ) → p ≤ k → k < i → get_or t k 0 ≢ byte "\n") → i ≡ run_end goes_on t n p
+unfolding run_end goes_on
+first_at t zero p i h g here before = omega arith
+first_at t (suc n) p i h g here before =
+    by (eqb p i) refl (λ l. first_at t n (p + 1) i (omega arith) (omega arith) (λ m. here (omega arith)) (λ k m o. before k (omega arith) o))
+  where
+    by : (x : Bool) → eqb p i ≡ x → (p < i → i ≡ run_end goes_on t n (p + 1)) → i ≡ run_end goes_on t (suc n) p
+    by true e rest =
+        let q : p ≡ i = eqb-true p i e in
+        let b : get_or t p 0 ≡ byte "\n" = ap (λ (k : ℕ). get_or t k 0) q ∙ here (omega arith) in
+        rw (eq-eqb (get_or t p 0) (byte "\n") b, run_end) (sym q)
+    by false e rest =
+        let l : p < i = omega (arith, eqb-false p i e) in
+        rw (ne_eqb (get_or t p 0) (byte "\n") (before p (omega arith) l), run_end) (rest l)
 
-pub ends_here : (b : ℕ) → b ≡ byte "\n" → goes_on b ≡ false
-unfolding goes_on
-ends_here b q = ap goes_on q
+-- what is found in the part of the text before the place, and behind it
+module _ (t : List ℕ) (p : ℕ) (h : p ≤ length t) where
+  before_place : (k : ℕ) → k < p → get_or (take p t) k 0 ≡ get_or t k 0
+  before_place k l = get_or-take p t k 0 l
 
-pub goes_on_lem : (b : ℕ) → (b ≡ byte "\n" → ⊥) → goes_on b ≡ true
-unfolding goes_on
-goes_on_lem b q = rw (ne_eqb b (byte "\n") q)
+  pub line_from_newline : (i : ℕ) → i < length (take p t) → get_or (take p t) i 0 ≡ byte "\n"
+      → ((k : ℕ) → i < k → k < length (take p t) → get_or (take p t) k 0 ≢ byte "\n") → (i + 1 ≡ line_from t p) × (i + 1 ≤ p)
+  line_from_newline i l b after =
+      let n : length (take p t) ≡ p = length-take-le p t h in
+      let m : i < p = omega arith in
+      (last_at t p i m (sym (before_place i m) ∙ b) (λ k o q e. after k o (omega arith) (before_place k q ∙ e)), omega arith)
+
+  pub line_from_start : ((k : ℕ) → k < length (take p t) → get_or (take p t) k 0 ≢ byte "\n") → (0 ≡ line_from t p) × (0 ≤ p)
+  line_from_start none =
+      let n : length (take p t) ≡ p = length-take-le p t h in
+      (none_at t p (λ k q e. none k (omega arith) (before_place k q ∙ e)), omega arith)
+
+  behind_place : (k : ℕ) → p + k < length t → get_or (part p (length t) t) k 0 ≡ get_or t (p + k) 0
+  behind_place k l = get_or-take (length t - p) (drop p t) k 0 (omega arith) ∙ get_or-drop p t k 0
+
+  behind : (i : ℕ) → ((k : ℕ) → k < i → get_or (part p (length t) t) k 0 ≢ byte "\n") → p + i ≤ length t → (k : ℕ) → p ≤ k → k < p + i → get_or t k 0 ≢ byte "\n"
+  behind i before l k m o e =
+      let q : p + (k - p) ≡ k = omega arith in
+      before (k - p) (omega arith) (behind_place (k - p) (omega arith) ∙ ap (λ (j : ℕ). get_or t j 0) q ∙ e)
+
+  pub line_to_newline : (i : ℕ) → i < length (part p (length t) t) → get_or (part p (length t) t) i 0 ≡ byte "\n"
+      → ((k : ℕ) → k < i → get_or (part p (length t) t) k 0 ≢ byte "\n") → (p + i ≡ line_to t p) × (p ≤ p + i) × (p + i ≤ length t)
+  line_to_newline i l b before =
+      let n : length (part p (length t) t) ≡ length t - p = part_length t p (length t) h (omega arith) in
+      (first_at t (length t - p) p (p + i) (omega arith) (omega arith) (λ m. sym (behind_place i (omega arith)) ∙ b) (behind i before (omega arith)), omega arith, omega arith)
+
+  pub line_to_end : ((k : ℕ) → k < length (part p (length t) t) → get_or (part p (length t) t) k 0 ≢ byte "\n") → (length t ≡ line_to t p) × (p ≤ length t) × (length t ≤ length t)
+  line_to_end none =
+      let n : length (part p (length t) t) ≡ length t - p = part_length t p (length t) h (omega arith) in
+      let q : p + (length t - p) ≡ length t = omega arith in
+      (first_at t (length t - p) p (length t) h (omega arith) (λ m. absurd (omega arith)) (λ k m o. behind (length t - p) (λ j l. none j (omega arith)) (omega arith) k m (omega arith)), h, omega arith)
 
 -- ---- a byte as it is shown
 
+-- a control character is one of std's
+pub control_is : (b : ℕ) → is_ascii_control b ≡ is_control b
+unfolding is_control
+control_is b = grind (arith, tests)
+
 module _ (before b : ℕ) where
-  pub control_of_another : (before ≡ 0xC2 → ⊥) → ends_control before b ≡ false
-  unfolding ends_control
-  control_of_another q = rw (ne_eqb before 0xC2 q)
-
-  pub control_ascii : before ≡ 0xC2 → b < 0x80 → ends_control before b ≡ false
-  unfolding ends_control
-  control_ascii q h = rw (eq-eqb before 0xC2 q, within_below 0x80 0x9F b h)
-
-  pub control_beyond : before ≡ 0xC2 → 0x80 ≤ b → ends_control before b ≡ leb b 0x9F
-  unfolding ends_control within
-  control_beyond q h = rw (eq-eqb before 0xC2 q, le-leb 0x80 b h, within)
-
   pub harmless_control : is_control b ≡ true → harmless before b ≡ byte "?"
   unfolding harmless
   harmless_control q = rw (q, harmless)

@@ -13,14 +13,10 @@ fn line_from(t: &[u8], p: usize) -> usize
     requires { p ≤ length t.now }
     ensures { (result ≡ line_from t.now p) × (result ≤ p) }
 {
-    let mut i = p;
-    while 0 < i {
-        if t[i - 1] == b'\n' {
-            return i;
-        }
-        i -= 1;
+    match t[..p].iter().rposition(|b| *b == b'\n') {
+        Some(i) => i + 1,
+        None => 0,
     }
-    0
 }
 
 // Where it ends: before the first newline from the place on. So a newline at the place is not shown, and the caret stands behind the line.
@@ -28,35 +24,22 @@ fn line_to(t: &[u8], p: usize) -> usize
     requires { p ≤ length t.now }
     ensures { (result ≡ line_to t.now p) × (p ≤ result) × (result ≤ length t.now) }
 {
-    let mut i = p;
-    while i < t.len() {
-        if t[i] == b'\n' {
-            return i;
-        }
-        i += 1;
+    match t[p..].iter().position(|b| *b == b'\n') {
+        Some(i) => p + i,
+        None => t.len(),
     }
-    i
 }
 
 fn is_control(b: u8) -> bool
     ensures { result ≡ is_control b }
 {
-    if b < b' ' {
-        return true;
-    }
-    b == 0x7F
+    b.is_ascii_control()
 }
 
 fn ends_control(before: u8, b: u8) -> bool
     ensures { result ≡ ends_control before b }
 {
-    if before != 0xC2 {
-        return false;
-    }
-    if b < 0x80 {
-        return false;
-    }
-    b <= 0x9F
+    before == 0xC2 && (0x80..=0x9F).contains(&b)
 }
 
 // The byte b behind another as it is shown.
@@ -77,13 +60,11 @@ fn put_harmless(text: &[u8], out: &mut [u8])
     requires { length text.now ≤ length out.old }
     ensures { out.new ≡ put_at out.old 0 (harmless_behind 0 text.now) }
 {
-    let mut i: usize = 0;
-    let mut before: u8 = 0;
-    while i < text.len() {
-        let b = text[i];
-        out[i] = harmless_byte(before, b);
-        before = b;
-        i += 1;
+    let mut before = 0;
+    // by a place of `out` (c): of what `iter_mut` beside `zip` writes, a proof knows nothing
+    for (i, b) in text.iter().enumerate() {
+        out[i] = harmless_byte(before, *b);
+        before = *b;
     }
 }
 

@@ -1,17 +1,19 @@
 -- What is told of a template that was read, and of one that was not. Assumes nothing.
-use mathlib.Core.Path.{◌≡◌, refl, ap, sym, ◌∙◌}
+use mathlib.Core.Path.{◌≡◌, refl, ap, sym, subst, ◌∙◌}
 use mathlib.Core.Bool.{Bool, true, false}
 use mathlib.Core.List.{List}
-use Prim.Native.Nat.{ℕ, ◌+◌, ◌*◌, ◌≤◌, ◌<◌, ◌^◌}
+use Prim.Native.Nat.{ℕ, ◌*◌, ◌≤◌, ◌<◌, ◌^◌}
 use native.Mathlib.Omega.{arith}
 use Rattle.refusals.specs.declared.Refusal.{Refusal}
-use Rattle.refusals.specs.Numbers.{number, value_with}
-use Rattle.segments.specs.Segments.{LogSegments}
+use Rattle.refusals.specs.Numbers.{value_with}
+use Rattle.segments.specs.declared.Cell.{Cell}
 use Rattle.segments.specs.Pool.{chain_at}
-use Rattle.template.specs.declared.Parsed.{Parsed}
+use Rattle.std.specs.Prelude.{Ok, Err, MatchResult, IsOkAnd}
+use Rattle.std.specs.Int.{from_bool}
+use Rattle.packing.specs.Packing.{Packable, packed_answer}
 use Rattle.template.specs.declared.Edition.{Edition}
-use Rattle.template.specs.Template.{Template, read, refusal, read_by, names_timestamp}
-use Rattle.template.specs.Parsing.{tell_parsed}
+use Rattle.template.specs.Template.{Template, refusal, read_by, names_timestamp}
+use Rattle.template.specs.Parsing.{Parsed, tell_parsed}
 use Rattle.template.proofs.Refusing.{refused_by, small_value}
 use Rattle.settings.specs.Bits.{is_known, edition_of}
 use Rattle.checking.specs.Templates.{template_asked, refusal_told, check_of, timestamp_of}
@@ -23,8 +25,8 @@ module _ (settings : ℕ) (t : List ℕ) where
   unfolding template_asked
   asked_known h e q x r = r ∙ ap (λ (z : Edition). read_by z t) q ∙ sym (rw (h, template_asked))
 
-  pub asked_unknown : is_known settings ≡ false → (cells : List ℕ) → tell_parsed (Parsed.Refused Refusal.NotASheet) cells ≡ template_asked settings t
-  unfolding template_asked tell_parsed
+  pub asked_unknown : is_known settings ≡ false → (cells : List Cell) → tell_parsed (Err Refusal.NotASheet) cells ≡ template_asked settings t
+  unfolding template_asked
   asked_unknown h cells = sym (rw (h, template_asked))
 
   -- what comes with a refusal is small
@@ -37,35 +39,39 @@ module _ (settings : ℕ) (t : List ℕ) where
   unfolding template_asked
   asked_small r q = let h = small (is_known settings) refl r q in omega arith
 
--- ---- by what was read
+-- ---- by what was read: a answers a length where it was, and the refusal where it was not
 
-module _ (cells : List ℕ) (o : Parsed) (x : Template) (w : tell_parsed o cells ≡ x) where
-  pub told_read : (n : ℕ) → o ≡ Parsed.Read n → x ≡ read (chain_at cells n)
-  unfolding tell_parsed
-  told_read n q = sym w ∙ ap (λ (z : Parsed). tell_parsed z cells) q
+module _ (settings : ℕ) (t : List ℕ) (cells : List Cell) where
+  asked_refused : (r : Refusal) → tell_parsed (Err r) cells ≡ template_asked settings t → Packable (Err r)
+  unfolding Packable
+  asked_refused r w = asked_small settings t r (sym w)
 
-  pub told_refused : (r : Refusal) → o ≡ Parsed.Refused r → x ≡ refusal r
-  unfolding tell_parsed
-  told_refused r q = sym w ∙ ap (λ (z : Parsed). tell_parsed z cells) q
+  module _ (Gives : ℕ → ℕ → Type 0) where
+    pub packs : (o a : Parsed) → tell_parsed o cells ≡ template_asked settings t → ((n k : ℕ) → Gives n k → k ≤ 1)
+        → MatchResult o (λ n. IsOkAnd a (Gives n)) (λ r. a ≡ Err r) → Packable a
+    unfolding Packable
+    packs (Ok n) (Ok k) w few h = let g = few n k h in omega (arith, g)
+    packs (Ok n) (Err q) w few h = absurd h
+    packs (Err r) a w few h = subst Packable (sym h) (asked_refused r w)
 
-module _ (x : Template) (c : LogSegments) (e : x ≡ read c) where
-  pub accepted : 0 ≡ check_of x
-  unfolding check_of
-  accepted = ap check_of (sym e)
+    pub checked : (o a : Parsed) → tell_parsed o cells ≡ template_asked settings t → ((n k : ℕ) → Gives n k → k ≡ 0)
+        → MatchResult o (λ n. IsOkAnd a (Gives n)) (λ r. a ≡ Err r) → packed_answer a ≡ check_of (template_asked settings t)
+    unfolding packed_answer check_of refusal_told
+    checked (Ok n) (Ok k) w is h = ap (λ x. 256 * x) (is n k h) ∙ ap check_of w
+    checked (Ok n) (Err q) w is h = absurd h
+    checked (Err r) a w is h = ap packed_answer h ∙ ap check_of w
 
-  pub named : names_timestamp c ≡ true → 256 ≡ timestamp_of x
-  unfolding timestamp_of
-  named h = rw (e, timestamp_of, h)
+    pub timed : (o a : Parsed) → tell_parsed o cells ≡ template_asked settings t → ((n k : ℕ) → Gives n k → k ≡ from_bool (names_timestamp (chain_at cells n)))
+        → MatchResult o (λ n. IsOkAnd a (Gives n)) (λ r. a ≡ Err r) → packed_answer a ≡ timestamp_of (template_asked settings t)
+    unfolding packed_answer timestamp_of refusal_told
+    timed (Ok n) (Ok k) w is h = ap (λ x. 256 * x) (is n k h) ∙ by (names_timestamp (chain_at cells n)) ∙ ap timestamp_of w
+      where
+        by : (b : Bool) → 256 * from_bool b ≡ elim b [ true ↦ 256 | false ↦ 0 ]
+        by true = refl
+        by false = refl
+    timed (Ok n) (Err q) w is h = absurd h
+    timed (Err r) a w is h = ap packed_answer h ∙ ap timestamp_of w
 
-  pub unnamed : names_timestamp c ≡ false → 0 ≡ timestamp_of x
-  unfolding timestamp_of
-  unnamed h = rw (e, timestamp_of, h)
-
-module _ (x : Template) (r : Refusal) (e : x ≡ refusal r) (n : ℕ) (packed : n ≡ number r + 256 * value_with r) where
-  pub refused_check : n ≡ check_of x
-  unfolding check_of refusal_told
-  refused_check = packed ∙ ap check_of (sym e)
-
-  pub refused_timestamp : n ≡ timestamp_of x
-  unfolding timestamp_of refusal_told
-  refused_timestamp = packed ∙ ap timestamp_of (sym e)
+pub one_or_none : (b : Bool) → from_bool b ≤ 1
+one_or_none true = omega arith
+one_or_none false = omega arith

@@ -6,6 +6,7 @@ use Prim.Native.Nat.{ℕ, ◌+◌, ◌≤◌}
 use native.Mathlib.Omega.{arith}
 use lib.ListN.{length, length-append}
 use borrow.Author.Tests.{ne_eqb}
+use Rattle.std.specs.Prelude.{Option, Some, None}
 use Rattle.buffer.specs.Bytes.{bytes}
 use Rattle.utf8.specs.Utf8.{within}
 use Rattle.characters.specs.Characters.{chars}
@@ -13,8 +14,6 @@ use Rattle.widths.specs.declared.Wides.{Wides}
 use Rattle.words.specs.declared.Color.{Color}
 use Rattle.words.specs.declared.Color.TheVariants.{Black, Red, Green, Yellow, Blue, Magenta, Cyan, White, BrightBlack, BrightWhite}
 use Rattle.runs.specs.Runs.{digit}
-use Rattle.colour.specs.declared.Ink.{Ink}
-use Rattle.colour.specs.declared.Ink.TheVariants.{Bare, Inked}
 use Rattle.colour.specs.declared.Look.{Look}
 use Rattle.colour.specs.declared.State.TheVariants.{Outside, Bracket, Digits}
 use Rattle.colour.specs.declared.Act.{Act}
@@ -65,10 +64,10 @@ code_foreground White = ((refl, λ e. omega arith), (refl, tt))
 code_foreground BrightBlack = ((refl, λ e. omega arith), (refl, tt))
 code_foreground BrightWhite = ((refl, λ e. omega arith), (refl, tt))
 
-codes_ink : (i : Ink) → Codes (ink_codes i)
+codes_ink : (i : Option Color) → Codes (ink_codes i)
 unfolding ink_codes
-codes_ink Bare = tt
-codes_ink (Inked c) = (code_foreground c, tt)
+codes_ink None = tt
+codes_ink (Some c) = (code_foreground c, tt)
 
 codes_where : (x : Bool) (c : List ℕ) (cs : List (List ℕ)) → Code c → Codes cs → Codes (where_it_applies x c cs)
 unfolding where_it_applies
@@ -227,19 +226,19 @@ unfolding spent where_it_applies
 spent_where true c cs = omega arith
 spent_where false c cs = omega arith
 
-spent_ink : (i : Ink) → spent (ink_codes i) ≤ 3
+spent_ink : (i : Option Color) → spent (ink_codes i) ≤ 3
 unfolding spent ink_codes foreground
-spent_ink Bare = omega arith
-spent_ink (Inked Black) = omega arith
-spent_ink (Inked Red) = omega arith
-spent_ink (Inked Green) = omega arith
-spent_ink (Inked Yellow) = omega arith
-spent_ink (Inked Blue) = omega arith
-spent_ink (Inked Magenta) = omega arith
-spent_ink (Inked Cyan) = omega arith
-spent_ink (Inked White) = omega arith
-spent_ink (Inked BrightBlack) = omega arith
-spent_ink (Inked BrightWhite) = omega arith
+spent_ink None = omega arith
+spent_ink (Some Black) = omega arith
+spent_ink (Some Red) = omega arith
+spent_ink (Some Green) = omega arith
+spent_ink (Some Yellow) = omega arith
+spent_ink (Some Blue) = omega arith
+spent_ink (Some Magenta) = omega arith
+spent_ink (Some Cyan) = omega arith
+spent_ink (Some White) = omega arith
+spent_ink (Some BrightBlack) = omega arith
+spent_ink (Some BrightWhite) = omega arith
 
 spent_codes : (k : Look) → spent (codes k) ≤ 13
 unfolding codes

@@ -1,11 +1,9 @@
 -- Looks: styles and colours that apply, and the prefix that switches them on (document 01, "Building a line"). Assumes nothing.
-use Rattle.std.specs.Prelude.{ℕ, ◌≡◌, refl, Bool, true, false, List, [], ◌∷◌, ◌++◌}
+use Rattle.std.specs.Prelude.{ℕ, ◌≡◌, refl, Bool, true, false, Option, Some, None, List, [], ◌∷◌, ◌++◌}
 use Rattle.buffer.specs.Bytes.{bytes}
 use Rattle.words.specs.declared.Color.{Color}
 use Rattle.words.specs.declared.Color.TheVariants.{Black, Red, Green, Yellow, Blue, Magenta, Cyan, White, BrightBlack, BrightWhite}
 use Rattle.words.specs.declared.Styles.{Styles}
-use Rattle.colour.specs.declared.Ink.{Ink}
-use Rattle.colour.specs.declared.Ink.TheVariants.{Bare, Inked}
 use Rattle.colour.specs.declared.Look.{Look}
 use Rattle.colour.specs.Sequences.{esc}
 
@@ -23,9 +21,9 @@ foreground BrightBlack = bytes "90"
 foreground BrightWhite = bytes "97"
 
 -- the code of a colour, where one applies
-unfoldable pub ink_codes : Ink → List (List ℕ)
-ink_codes Bare = []
-ink_codes (Inked c) = foreground c ∷ []
+unfoldable pub ink_codes : Option Color → List (List ℕ)
+ink_codes None = []
+ink_codes (Some c) = foreground c ∷ []
 
 -- a code where it applies, before the others
 unfoldable pub where_it_applies : Bool → List ℕ → List (List ℕ) → List (List ℕ)
@@ -56,6 +54,6 @@ sequence (c ∷ cs) = esc ∷ bytes "[" ++ (c ++ (following cs ++ bytes "m"))
 unfoldable pub prefix : Look → List ℕ
 prefix k = sequence (codes k)
 
-bold_italic_bright : prefix (record { styles = record { bold = true; dimmed = false; underline = false; italic = true; strike = false }; ink = Inked BrightBlack }) ≡ bytes "\u{1b}[1;3;90m"
+bold_italic_bright : prefix (record { styles = record { bold = true; dimmed = false; underline = false; italic = true; strike = false }; ink = Some BrightBlack }) ≡ bytes "\u{1b}[1;3;90m"
 unfolding prefix sequence codes where_it_applies following ink_codes foreground
 bold_italic_bright = refl

@@ -12,18 +12,11 @@ pub struct Settings {
     pub rule: Rule,
 }
 
-// The colour that applies to a text.
-#[derive(Clone, Copy)]
-pub enum Ink {
-    Bare,
-    Inked(Color),
-}
-
-// The styles and the colour that apply to a text.
+// The styles and the colour that apply to a text; `None` where no colour applies.
 #[derive(Clone, Copy)]
 pub struct Look {
     pub styles: Styles,
-    pub ink: Ink,
+    pub ink: Option<Color>,
 }
 
 // How a text is written, defaults and levels resolved.
@@ -36,9 +29,10 @@ pub struct Format {
 }
 
 // Where the search for colour sequences stands.
-#[derive(Clone, Copy)]
+#[derive(Clone, Copy, Default)]
 pub enum State {
     // no sequence has begun
+    #[default]
     Outside,
     // after byte 27
     Escape,
@@ -66,7 +60,7 @@ pub enum Act {
 }
 
 // What the search has found: the bytes held of a sequence that has begun, the bytes of whole sequences, the resets.
-#[derive(Clone, Copy)]
+#[derive(Clone, Copy, Default)]
 pub struct Scan {
     pub state: State,
     pub held: usize,

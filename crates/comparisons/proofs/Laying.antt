@@ -1,12 +1,12 @@
 -- The layout by places is the layout of the two values. Assumes nothing.
+use Rattle.std.specs.Prelude.{Some, None}
 use mathlib.Core.Path.{◌≡◌, refl, ap, sym, ◌∙◌}
 use mathlib.Core.List.{List}
-use Prim.Native.Nat.{ℕ, ◌+◌, ◌-◌, ◌<◌}
+use Prim.Native.Nat.{ℕ, ◌+◌, ◌-◌}
 use lib.ListN.{length, take, drop}
 use Rattle.buffer.specs.Bytes.{bytes, part}
 use Rattle.words.specs.declared.Color.{Color}
 use Rattle.words.specs.declared.Color.TheVariants.{Red, Green}
-use Rattle.colour.specs.declared.Ink.TheVariants.{Bare, Inked}
 use Rattle.colour.specs.Shown.{text, specifier, Members, more}
 use Rattle.colour.specs.Shown as shown
 use Rattle.comparisons.specs.Comparisons.{characters, all_of, shared, plain_styles, bold_styles, run_format, one_run, runs, layout_of, layout}
@@ -22,25 +22,25 @@ three_runs_lem : (c : Color) (d : List ℕ) (v : Value) (x : List (List ℕ)) (n
     → m ≡ m' → three_runs c d v m ≡ runs c x n k m'
 unfolding three_runs runs
 three_runs_lem c d v x n k m m' p q r e =
-    ap (λ (s : List ℕ). one_run plain_styles (Inked c) s (one_run bold_styles (Inked c) (part v.begun v.rest d) (one_run plain_styles (Inked c) (part v.rest v.to d) m))) (sym p)
-    ∙ ap (λ (s : List ℕ). one_run plain_styles (Inked c) (all_of (take n x)) (one_run bold_styles (Inked c) s (one_run plain_styles (Inked c) (part v.rest v.to d) m))) (sym q)
-    ∙ ap (λ (s : List ℕ). one_run plain_styles (Inked c) (all_of (take n x)) (one_run bold_styles (Inked c) (all_of (take (length x - (n + k)) (drop n x))) (one_run plain_styles (Inked c) s m))) (sym r)
-    ∙ ap (λ (z : Members). one_run plain_styles (Inked c) (all_of (take n x)) (one_run bold_styles (Inked c) (all_of (take (length x - (n + k)) (drop n x))) (one_run plain_styles (Inked c) (all_of (drop (length x - k) x)) z))) e
+    ap (λ (s : List ℕ). one_run plain_styles (Some c) s (one_run bold_styles (Some c) (part v.begun v.rest d) (one_run plain_styles (Some c) (part v.rest v.to d) m))) (sym p)
+    ∙ ap (λ (s : List ℕ). one_run plain_styles (Some c) (all_of (take n x)) (one_run bold_styles (Some c) s (one_run plain_styles (Some c) (part v.rest v.to d) m))) (sym q)
+    ∙ ap (λ (s : List ℕ). one_run plain_styles (Some c) (all_of (take n x)) (one_run bold_styles (Some c) (all_of (take (length x - (n + k)) (drop n x))) (one_run plain_styles (Some c) s m))) (sym r)
+    ∙ ap (λ (z : Members). one_run plain_styles (Some c) (all_of (take n x)) (one_run bold_styles (Some c) (all_of (take (length x - (n + k)) (drop n x))) (one_run plain_styles (Some c) (all_of (drop (length x - k) x)) z))) e
 
 -- the frame around the two values
 abbrev framed : List ℕ → (Members → Members) → Members → Members
 framed head l r =
-    more (specifier (run_format bold_styles Bare) head)
+    more (specifier (run_format bold_styles None) head)
     (more (text (bytes "\n"))
-    (more (specifier (run_format bold_styles Bare) (bytes "diff"))
+    (more (specifier (run_format bold_styles None) (bytes "diff"))
     (more (text (bytes " "))
-    (more (specifier (run_format plain_styles (Inked Red)) (bytes "< left"))
+    (more (specifier (run_format plain_styles (Some Red)) (bytes "< left"))
     (more (text (bytes " / "))
-    (more (specifier (run_format plain_styles (Inked Green)) (bytes "right >"))
+    (more (specifier (run_format plain_styles (Some Green)) (bytes "right >"))
     (more (text (bytes "\n"))
-    (more (specifier (run_format plain_styles (Inked Red)) (bytes "<"))
+    (more (specifier (run_format plain_styles (Some Red)) (bytes "<"))
     (l (more (text (bytes "\n"))
-    (more (specifier (run_format plain_styles (Inked Green)) (bytes ">")) r)))))))))))
+    (more (specifier (run_format plain_styles (Some Green)) (bytes ">")) r)))))))))))
 
 pub placed_is : (h d : List ℕ) (s : Spans) (x y : List (List ℕ)) (n k : ℕ)
     → ((m m' : Members) → m ≡ m' → three_runs Red d s.left m ≡ runs Red x n k m')
@@ -48,9 +48,9 @@ pub placed_is : (h d : List ℕ) (s : Spans) (x y : List (List ℕ)) (n k : ℕ)
     → placed h d s ≡ layout_of h x y n k
 unfolding placed layout_of
 placed_is h d s x y n k f g =
-    let u = more (text (bytes "\n")) (more (specifier (run_format plain_styles (Inked Green)) (bytes ">")) (three_runs Green d s.right shown.none)) in
-    let v = more (text (bytes "\n")) (more (specifier (run_format plain_styles (Inked Green)) (bytes ">")) (runs Green y n k shown.none)) in
-    let e : u ≡ v = ap (λ (m : Members). more (text (bytes "\n")) (more (specifier (run_format plain_styles (Inked Green)) (bytes ">")) m)) (g shown.none shown.none refl) in
+    let u = more (text (bytes "\n")) (more (specifier (run_format plain_styles (Some Green)) (bytes ">")) (three_runs Green d s.right shown.none)) in
+    let v = more (text (bytes "\n")) (more (specifier (run_format plain_styles (Some Green)) (bytes ">")) (runs Green y n k shown.none)) in
+    let e : u ≡ v = ap (λ (m : Members). more (text (bytes "\n")) (more (specifier (run_format plain_styles (Some Green)) (bytes ">")) m)) (g shown.none shown.none refl) in
     ap (λ (m : Members). framed h (λ z. m) shown.none) (f u v e)
 
 -- the places of two values

@@ -1,6 +1,7 @@
 pub mod Parts
 pub mod Lining
 pub mod Splitting
+pub mod Finding
 pub mod Sharing
 pub mod Laying
 pub mod Walking

@@ -2,7 +2,7 @@
 use mathlib.Core.Path.{◌≡◌, refl, ap, sym, ◌∙◌}
 use mathlib.Core.Bool.{Bool, true, false}
 use mathlib.Core.List.{List, [], ◌∷◌, ◌++◌, append_assoc, append-nil}
-use Prim.Native.Nat.{ℕ, ◌+◌, ◌-◌, ◌<◌, ◌≤◌}
+use Prim.Native.Nat.{ℕ, ◌+◌, ◌<◌, ◌≤◌}
 use native.Mathlib.Omega.{arith}
 use lib.Dec.{eqb}
 use lib.ListN.{length, get_or}
@@ -21,10 +21,6 @@ use Rattle.comparisons.proofs.Parts.{part_join}
 abbrev pub Single : List ℕ → Type 0
 Single [] = Unit {0}
 Single (b ∷ s) = (b ≡ 0x0A → ⊥) × Single s
-
-pub single_append : (x y : List ℕ) → Single x → Single y → Single (x ++ y)
-single_append [] y f g = g
-single_append (b ∷ x) y f g = (f.0, single_append x y f.1 g)
 
 -- ---- `trimmed`
 

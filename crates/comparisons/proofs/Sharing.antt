@@ -1,6 +1,8 @@
 -- What two texts share, from the front and from the back, turn by turn. Assumes nothing.
+use lib.Pointwise.{pointwise}
 use mathlib.Core.Path.{◌≡◌, refl, ap, sym, ◌∙◌}
-use mathlib.Core.Bool.{Bool, true, false}
+use mathlib.Core.Bool.{Bool, true, false, not, ◌&&◌}
+use lib.Dec.{eqb}
 use mathlib.Core.List.{List, [], ◌∷◌, ◌++◌, append_assoc, append-nil}
 use Prim.Native.Nat.{ℕ, suc, ◌+◌, ◌-◌, ◌<◌, ◌≤◌}
 use native.Mathlib.Omega.{arith}
@@ -279,3 +281,33 @@ rest_of_other x y u v n q e g =
       ap (λ (j : ℕ). take j (drop n y)) m ∙ ap (take (length v - k)) g,
       ap (λ (j : ℕ). drop j y) o ∙ sym (drop-drop (length v - k) n y) ∙ ap (drop (length v - k)) g,
     )
+
+-- ---- whether two parts are the same, as code compares them
+
+pointwise_same : (x y : List ℕ) → pointwise eqb x y ≡ same x y
+unfolding same
+pointwise_same [] [] = refl
+pointwise_same [] (b ∷ y) = refl
+pointwise_same (a ∷ x) [] = refl
+pointwise_same (a ∷ x) (b ∷ y) = by (eqb a b) (pointwise_same x y)
+  where
+    by : {r t : Bool} (c : Bool) → r ≡ t → (c && r) ≡ elim c as (λ _. Bool) [ true ↦ t | false ↦ false ]
+    by true e = e
+    by false e = refl
+
+pub found_same : (x y : List ℕ) (r : Bool) → r ≡ pointwise eqb x y → r ≡ same x y
+found_same x y r e = e ∙ pointwise_same x y
+
+pub found_alike : (x y : List ℕ) (r : Bool) → r ≡ not (pointwise eqb x y) → r ≡ false → same x y ≡ true
+found_alike x y r e h = sym (pointwise_same x y) ∙ by (pointwise eqb x y) (sym e ∙ h)
+  where
+    by : (c : Bool) → not c ≡ false → c ≡ true
+    by true z = refl
+    by false z = cc
+
+pub found_unlike : (x y : List ℕ) (r : Bool) → r ≡ not (pointwise eqb x y) → r ≡ true → same x y ≡ false
+found_unlike x y r e h = sym (pointwise_same x y) ∙ by (pointwise eqb x y) (sym e ∙ h)
+  where
+    by : (c : Bool) → not c ≡ true → c ≡ false
+    by true z = cc
+    by false z = refl

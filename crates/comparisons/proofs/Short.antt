@@ -1,4 +1,5 @@
 -- How long a layout is at most: its pieces together are no longer than the message. Assumes nothing.
+use Rattle.std.specs.Prelude.{Option, Some}
 use Prim.Native.Nat.{ℕ, zero, suc, ◌+◌, ◌*◌, ◌-◌, ◌≤◌, ◌<◌, ◌^◌}
 use mathlib.Core.Path.{◌≡◌, refl, sym, ap, ◌∙◌, subst}
 use mathlib.Core.Bool.{Bool, true, false, ◌&&◌}
@@ -12,8 +13,6 @@ use Rattle.buffer.specs.Table.{Maybe, none, some}
 use Rattle.words.specs.declared.Color.{Color}
 use Rattle.words.specs.declared.Styles.{Styles}
 use Rattle.words.specs.declared.Color.TheVariants.{Red, Green}
-use Rattle.colour.specs.declared.Ink.{Ink}
-use Rattle.colour.specs.declared.Ink.TheVariants.{Inked}
 use Rattle.colour.specs.declared.Settings.{Settings}
 use Rattle.colour.specs.Formatting.{formatted}
 use Rattle.colour.specs.Sequences.{starts_with}
@@ -171,7 +170,7 @@ module _ (s : Settings) where
   members_short (more (specifier f t) m) = omega (arith, length-append (formatted s f t) (joined s m), length_formatted_coarse s f t, members_short m)
   members_short (more (group f x) m) = omega (arith, length-append (formatted s f (joined s x)) (joined s m), members_short m)
 
-  run_most : (y : Styles) (i : Ink) (t : List ℕ) (m : Members) → most (one_run y i t m) ≤ 16 * length t + 19 + most m
+  run_most : (y : Styles) (i : Option Color) (t : List ℕ) (m : Members) → most (one_run y i t m) ≤ 16 * length t + 19 + most m
   unfolding one_run
   run_most y i [] m = omega arith
   run_most y i (b ∷ t) m = omega arith
@@ -179,12 +178,12 @@ module _ (s : Settings) where
   runs_most : (c : Color) (x : List (List ℕ)) (n k : ℕ) (m : Members) → n + k ≤ length x → most (runs c x n k m) ≤ 16 * length (all_of x) + 57 + most m
   unfolding runs
   runs_most c x n k m h =
-      let last = one_run plain_styles (Inked c) (all_of (drop (length x - k) x)) m in
-      let middle = one_run bold_styles (Inked c) (all_of (take (length x - (n + k)) (drop n x))) last in
+      let last = one_run plain_styles (Some c) (all_of (drop (length x - k) x)) m in
+      let middle = one_run bold_styles (Some c) (all_of (take (length x - (n + k)) (drop n x))) last in
       let t = three_lengths x n k h in
-      let l = run_most plain_styles (Inked c) (all_of (drop (length x - k) x)) m in
-      let b = run_most bold_styles (Inked c) (all_of (take (length x - (n + k)) (drop n x))) last in
-      let f = run_most plain_styles (Inked c) (all_of (take n x)) middle in
+      let l = run_most plain_styles (Some c) (all_of (drop (length x - k) x)) m in
+      let b = run_most bold_styles (Some c) (all_of (take (length x - (n + k)) (drop n x))) last in
+      let f = run_most plain_styles (Some c) (all_of (take n x)) middle in
       omega (arith, t, f, b, l)
 
   pub layout_short : (c : Comparison) → length (joined s (layout c)) ≤ 16 * (length c.head + (length c.left + length c.right)) + 1000
@@ -196,7 +195,7 @@ module _ (s : Settings) where
       let k = shared (backwards (drop n x)) (backwards (drop n y)) in
       let left : n + k ≤ length x = within n (shared (backwards (drop n x)) (backwards (drop n y))) x (shared_left x y) (shared_left (backwards (drop n x)) (backwards (drop n y))) in
       let right : n + k ≤ length y = within n (shared (backwards (drop n x)) (backwards (drop n y))) y (shared_right x y) (shared_right (backwards (drop n x)) (backwards (drop n y))) in
-      let rest = more (text (bytes "\n")) (more (specifier (run_format plain_styles (Inked Green)) (bytes ">")) (runs Green y n k shown.none)) in
+      let rest = more (text (bytes "\n")) (more (specifier (run_format plain_styles (Some Green)) (bytes ">")) (runs Green y n k shown.none)) in
       omega (
         arith,
         members_short (layout c),

@@ -2,10 +2,10 @@
 use mathlib.Core.Path.{◌≡◌, refl, ap, sym, ◌∙◌}
 use mathlib.Core.Bool.{Bool, true, false}
 use mathlib.Core.List.{List, [], ◌∷◌, ◌++◌}
-use Prim.Native.Nat.{ℕ, ◌+◌, ◌-◌, ◌<◌, ◌≤◌}
+use Prim.Native.Nat.{ℕ, ◌+◌, ◌<◌, ◌≤◌}
 use native.Mathlib.Omega.{arith}
 use lib.ListN.{length, get_or}
-use Rattle.buffer.specs.Bytes.{bytes, part}
+use Rattle.buffer.specs.Bytes.{part}
 use Rattle.utf8.specs.Utf8.{within, trail}
 use Rattle.buffer.proofs.Parts.{part_step}
 use Rattle.comparisons.specs.Comparisons.{before_line, continues, characters, all_of}
@@ -15,10 +15,6 @@ use Rattle.comparisons.proofs.Parts.{part_join, part_none}
 abbrev pub Trails : List ℕ → Type 0
 Trails [] = Unit {0}
 Trails (c ∷ t) = (within trail c ≡ true) × Trails t
-
-pub trails_append : (x y : List ℕ) → Trails x → Trails y → Trails (x ++ y)
-trails_append [] y f g = g
-trails_append (b ∷ x) y f g = (f.0, trails_append x y f.1 g)
 
 -- one character
 pub characters_one : (b : ℕ) (t : List ℕ) → Trails t → characters (b ∷ t) ≡ (b ∷ t) ∷ []

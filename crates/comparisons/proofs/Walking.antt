@@ -1,7 +1,8 @@
 -- The last two lines, line by line. Assumes nothing.
+use Rattle.std.specs.Prelude.{Some, None}
 use mathlib.Core.Path.{◌≡◌, refl, ap, sym, ◌∙◌, subst}
 use mathlib.Core.List.{List, [], ◌∷◌, ◌++◌}
-use Prim.Native.Nat.{ℕ, ◌+◌, ◌-◌, ◌<◌, ◌≤◌}
+use Prim.Native.Nat.{ℕ, ◌+◌, ◌<◌, ◌≤◌}
 use native.Mathlib.Omega.{arith}
 use lib.ListN.{length, get_or}
 use Rattle.buffer.specs.Bytes.{part}
@@ -9,7 +10,6 @@ use Rattle.buffer.proofs.Parts.{part_step, part_end}
 use Rattle.comparisons.specs.Comparisons.{lines, by_lines, comparison}
 use Rattle.comparisons.specs.Places.{Closed, LineAt, by_ending}
 use Rattle.comparisons.specs.declared.Lined.{Lined}
-use Rattle.comparisons.specs.declared.Ending.TheVariants.{Few, Two}
 use Rattle.comparisons.proofs.Parts.{part_join, part_none}
 use Rattle.comparisons.proofs.Lining.{Apart, apart_nil, apart_more, lines_nil, lines_some, by_turn, by_two, by_one, by_none, by_last}
 
@@ -31,11 +31,11 @@ is_by_lines : (m : List ℕ) → comparison m ≡ by_lines [] (lines m)
 unfolding comparison
 is_by_lines m = refl
 
-pub few_none : (d : List ℕ) (from to : ℕ) → from ≡ to → by_ending d from Few ≡ comparison (part from to d)
+pub few_none : (d : List ℕ) (from to : ℕ) → from ≡ to → by_ending d from None ≡ comparison (part from to d)
 unfolding by_ending
 few_none d from to e = sym (is_by_lines (part from to d) ∙ ap (by_lines []) (no_lines d from to (omega arith)) ∙ by_none [])
 
-pub few_one : (d : List ℕ) (from to : ℕ) (r : Lined) → LineAt d from to r → r.next ≡ to → by_ending d from Few ≡ comparison (part from to d)
+pub few_one : (d : List ℕ) (from to : ℕ) (r : Lined) → LineAt d from to r → r.next ≡ to → by_ending d from None ≡ comparison (part from to d)
 unfolding by_ending
 few_one d from to r l e =
     sym (is_by_lines (part from to d)
@@ -83,7 +83,7 @@ walked_end d from to left stop right last next w h =
     w.says ∙ ap (λ (y : List (List ℕ)). by_lines (lines (part from left d)) (part left stop d ∷ (part right last d ∷ y))) (no_lines d next to h)
 
 pub few_two : (d : List ℕ) (from to left stop right last next : ℕ) → Walked d from to left stop right last next → to ≤ next → left ≡ from
-    → by_ending d from Few ≡ comparison (part from to d)
+    → by_ending d from None ≡ comparison (part from to d)
 unfolding by_ending
 few_two d from to left stop right last next w h e =
     sym (walked_end d from to left stop right last next w h
@@ -94,7 +94,7 @@ some_lines : (d : List ℕ) (i e : ℕ) → i < e → e ≤ length d → 1 ≤ l
 some_lines d i e h g = subst (λ (s : List ℕ). 1 ≤ length (lines s)) (sym (part_step d i e h g)) (lines_some (get_or d i 0) (part (i + 1) e d))
 
 pub last_two_are : (d : List ℕ) (from to left stop right last next : ℕ) → Walked d from to left stop right last next → to ≤ next → to ≤ length d → (left ≡ from → ⊥)
-    → by_ending d from (Two (record { left = record { from = left; to = stop }; right = record { from = right; to = last } })) ≡ comparison (part from to d)
+    → by_ending d from (Some (record { left = record { from = left; to = stop }; right = record { from = right; to = last } })) ≡ comparison (part from to d)
 unfolding by_ending
 last_two_are d from to left stop right last next w h g n =
     sym (walked_end d from to left stop right last next w h

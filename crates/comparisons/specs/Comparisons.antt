@@ -1,6 +1,6 @@
 -- Comparison reports (document 02, E10; in the crate: `color_diff`): a message whose last two lines hold two values is laid out as a tree of runs.
 -- Assumes nothing.
-use Rattle.std.specs.Prelude.{ℕ, suc, ◌+◌, ◌-◌, Bool, true, false, ◌&&◌, List, [], ◌∷◌, ◌++◌, eqb, leb, length, take, drop}
+use Rattle.std.specs.Prelude.{Option, Some, None, ℕ, suc, ◌+◌, ◌-◌, Bool, true, false, ◌&&◌, List, [], ◌∷◌, ◌++◌, eqb, leb, length, take, drop}
 use Rattle.buffer.specs.Bytes.{byte, bytes, same}
 use Rattle.utf8.specs.Utf8.{within, trail}
 use Rattle.buffer.specs.Table.{Maybe, none, some}
@@ -9,8 +9,6 @@ use Rattle.words.specs.declared.Padding.TheVariants.{Space}
 use Rattle.words.specs.declared.Color.{Color}
 use Rattle.words.specs.declared.Color.TheVariants.{Red, Green}
 use Rattle.words.specs.declared.Styles.{Styles}
-use Rattle.colour.specs.declared.Ink.{Ink}
-use Rattle.colour.specs.declared.Ink.TheVariants.{Bare, Inked}
 use Rattle.colour.specs.declared.Format.{Format}
 use Rattle.colour.specs.Sequences.{starts_with}
 use Rattle.colour.specs.Shown.{Shown, text, specifier, group, Members, more, joined}
@@ -118,36 +116,36 @@ abbrev pub bold_styles : Styles
 bold_styles = record { bold = true; dimmed = false; underline = false; italic = false; strike = false }
 
 -- a look without width
-abbrev pub run_format : Styles → Ink → Format
+abbrev pub run_format : Styles → Option Color → Format
 run_format y i = record { width = 0; alignment = Left; padding = Space; look = record { styles = y; ink = i } }
 
 -- a run of a text, left out where it is empty
-unfoldable pub one_run : Styles → Ink → List ℕ → Members → Members
+unfoldable pub one_run : Styles → Option Color → List ℕ → Members → Members
 one_run y i [] m = m
 one_run y i (b ∷ s) m = more (specifier (run_format y i) (b ∷ s)) m
 
 -- a value by what it shares with the other: n characters at the beginning, k at the end
 unfoldable pub runs : Color → List (List ℕ) → ℕ → ℕ → Members → Members
 runs c x n k m =
-    one_run plain_styles (Inked c) (all_of (take n x))
-    (one_run bold_styles (Inked c) (all_of (take (length x - (n + k)) (drop n x)))
-    (one_run plain_styles (Inked c) (all_of (drop (length x - k) x)) m))
+    one_run plain_styles (Some c) (all_of (take n x))
+    (one_run bold_styles (Some c) (all_of (take (length x - (n + k)) (drop n x)))
+    (one_run plain_styles (Some c) (all_of (drop (length x - k) x)) m))
 
 -- the head, the title, and the two values below each other
 unfoldable pub layout_of : List ℕ → List (List ℕ) → List (List ℕ) → ℕ → ℕ → Members
 layout_of head x y n k =
-    more (specifier (run_format bold_styles Bare) head)
+    more (specifier (run_format bold_styles None) head)
     (more (text (bytes "\n"))
-    (more (specifier (run_format bold_styles Bare) (bytes "diff"))
+    (more (specifier (run_format bold_styles None) (bytes "diff"))
     (more (text (bytes " "))
-    (more (specifier (run_format plain_styles (Inked Red)) (bytes "< left"))
+    (more (specifier (run_format plain_styles (Some Red)) (bytes "< left"))
     (more (text (bytes " / "))
-    (more (specifier (run_format plain_styles (Inked Green)) (bytes "right >"))
+    (more (specifier (run_format plain_styles (Some Green)) (bytes "right >"))
     (more (text (bytes "\n"))
-    (more (specifier (run_format plain_styles (Inked Red)) (bytes "<"))
+    (more (specifier (run_format plain_styles (Some Red)) (bytes "<"))
     (runs Red x n k
     (more (text (bytes "\n"))
-    (more (specifier (run_format plain_styles (Inked Green)) (bytes ">"))
+    (more (specifier (run_format plain_styles (Some Green)) (bytes ">"))
     (runs Green y n k shown.none))))))))))))
 
 -- "the longest shared beginning, then the longest shared end of what remains, in whole characters"
@@ -160,7 +158,7 @@ layout c =
 
 -- a group without width or look adds nothing to its members
 abbrev pub bare_format : Format
-bare_format = run_format plain_styles Bare
+bare_format = run_format plain_styles None
 
 -- the layout of a comparison, or else what is shown where there is none
 unfoldable pub laid_or_else : Shown → Maybe Comparison → Shown

@@ -1,21 +1,19 @@
 -- Scaffolding, for proofs alone: what the places found in a message mean. Assumes nothing.
-use Rattle.std.specs.Prelude.{ℕ, ◌+◌, ◌-◌, ◌≤◌, ◌<◌, ◌≡◌, Bool, true, false, List, [], ◌∷◌, ◌++◌, eqb, length, take, drop}
+use Rattle.std.specs.Prelude.{ℕ, ◌+◌, ◌-◌, ◌/◌, ◌≤◌, ◌<◌, ◌≡◌, true, false, Option, Some, None, List, [], ◌∷◌, ◌++◌, eqb, length, take, drop, get_or}
 use Rattle.buffer.specs.Bytes.{bytes, part}
 use Rattle.buffer.specs.Table.{Maybe, none, some}
+use Rattle.utf8.specs.Windows.{alike}
 use Rattle.words.specs.declared.Color.{Color}
 use Rattle.words.specs.declared.Color.TheVariants.{Red, Green}
-use Rattle.colour.specs.declared.Ink.TheVariants.{Bare, Inked}
 use Rattle.colour.specs.Shown.{text, specifier, Members, more}
 use Rattle.colour.specs.Shown as shown
 use Rattle.comparisons.specs.Comparisons.{lines, joined_by_newline, Comparison, value_in, comparing, characters, all_of, shared, backwards, plain_styles, bold_styles, run_format, one_run, layout}
 use Rattle.comparisons.specs.declared.Lined.{Lined}
-use Rattle.comparisons.specs.declared.Ending.{Ending}
-use Rattle.comparisons.specs.declared.Ending.TheVariants.{Few, Two}
+use Rattle.comparisons.specs.declared.LastTwo.{LastTwo}
 use Rattle.comparisons.specs.declared.Pair.{Pair}
+use Rattle.comparisons.specs.declared.Span.{Span}
 use Rattle.comparisons.specs.declared.Spans.{Spans}
 use Rattle.comparisons.specs.declared.Value.{Value}
-use Rattle.comparisons.specs.declared.Compared.{Compared}
-use Rattle.comparisons.specs.declared.Compared.TheVariants.{Nothing, At}
 
 -- ---- lines
 
@@ -54,27 +52,48 @@ pub record LineAt (d : List ℕ) (i e : ℕ) (r : Lined) : Type 0 where
   pub first : lines (part i e d) ≡ part i r.end d ∷ lines (part r.next e d)
   pub closed : r.next < e → Closed (part i r.next d) (part i r.end d)
 
+-- the first newline of a text, if there is one
+abbrev pub FirstNewline : List ℕ → Option ℕ → Type 0
+FirstNewline t None = (k : ℕ) → k < length t → get_or t k 0 ≡ 0x0A → ⊥
+FirstNewline t (Some n) = (n < length t) × (get_or t n 0 ≡ 0x0A) × ((k : ℕ) → k < n → get_or t k 0 ≡ 0x0A → ⊥)
+
 -- the last two lines of a text, with what stands before them
-unfoldable pub by_ending : List ℕ → ℕ → Ending → Maybe Comparison
-by_ending d from Few = none
-by_ending d from (Two p) = comparing (lines (part from p.left.from d)) (value_in (bytes " left: `") (part p.left.from p.left.to d)) (value_in (bytes "right: `") (part p.right.from p.right.to d))
+unfoldable pub by_ending : List ℕ → ℕ → Option LastTwo → Maybe Comparison
+by_ending d from None = none
+by_ending d from (Some p) = comparing (lines (part from p.left.from d)) (value_in (bytes " left: `") (part p.left.from p.left.to d)) (value_in (bytes "right: `") (part p.right.from p.right.to d))
 
 -- one after the other
-abbrev pub EndingWithin : ℕ → ℕ → Ending → Type 0
-EndingWithin from to Few = Unit {0}
-EndingWithin from to (Two p) = ((from ≤ p.left.from) × (p.left.from ≤ p.left.to)) × ((p.left.to ≤ p.right.from) × ((p.right.from ≤ p.right.to) × (p.right.to ≤ to)))
+abbrev pub EndingWithin : ℕ → ℕ → Option LastTwo → Type 0
+EndingWithin from to None = Unit {0}
+EndingWithin from to (Some p) = ((from ≤ p.left.from) × (p.left.from ≤ p.left.to)) × ((p.left.to ≤ p.right.from) × ((p.right.from ≤ p.right.to) × (p.right.to ≤ to)))
 
 -- ---- values
 
--- a value between its marks
-unfoldable pub value_by : List ℕ → ℕ → ℕ → Bool → Maybe (List ℕ)
-value_by d i e true = some (part (i + 8) (e - 1) d)
-value_by d i e false = none
+-- the value at a place, if there is one
+unfoldable pub value_between : List ℕ → Option Span → Maybe (List ℕ)
+value_between d None = none
+value_between d (Some v) = some (part v.from v.to d)
 
--- a value has room for its marks
-abbrev pub Long : ℕ → ℕ → Bool → Type 0
-Long i e true = i + 9 ≤ e
-Long i e false = Unit {0}
+-- a value stands between the marks of its line
+abbrev pub BetweenMarks : Span → Option Span → Type 0
+BetweenMarks line None = Unit {0}
+BetweenMarks line (Some v) = (line.from + 8 ≡ v.from) × ((v.from ≤ v.to) × (v.to + 1 ≡ line.to))
+
+-- ---- where characters begin
+
+-- b goes on with no character
+abbrev pub Starts : ℕ → Type 0
+Starts b = alike (b / 64) 2 ≡ 0
+
+-- the first byte of a text that begins a character, if there is one
+abbrev pub FirstStart : List ℕ → Option ℕ → Type 0
+FirstStart t None = (k : ℕ) → k < length t → Starts (get_or t k 0) → ⊥
+FirstStart t (Some n) = (n < length t) × Starts (get_or t n 0) × ((k : ℕ) → k < n → Starts (get_or t k 0) → ⊥)
+
+-- the last one
+abbrev pub LastStart : List ℕ → Option ℕ → Type 0
+LastStart t None = (k : ℕ) → k < length t → Starts (get_or t k 0) → ⊥
+LastStart t (Some n) = (n < length t) × Starts (get_or t n 0) × ((k : ℕ) → n < k → k < length t → Starts (get_or t k 0) → ⊥)
 
 -- ---- what is shared
 
@@ -104,29 +123,29 @@ pub record End (d : List ℕ) (i e j f : ℕ) (r : Pair) : Type 0 where
 
 -- a value in three runs
 unfoldable pub three_runs : Color → List ℕ → Value → Members → Members
-three_runs c d v m = one_run plain_styles (Inked c) (part v.from v.begun d) (one_run bold_styles (Inked c) (part v.begun v.rest d) (one_run plain_styles (Inked c) (part v.rest v.to d) m))
+three_runs c d v m = one_run plain_styles (Some c) (part v.from v.begun d) (one_run bold_styles (Some c) (part v.begun v.rest d) (one_run plain_styles (Some c) (part v.rest v.to d) m))
 
 -- a layout: a head and the values at their places
 unfoldable pub placed : List ℕ → List ℕ → Spans → Members
 placed head d s =
-    more (specifier (run_format bold_styles Bare) head)
+    more (specifier (run_format bold_styles None) head)
     (more (text (bytes "\n"))
-    (more (specifier (run_format bold_styles Bare) (bytes "diff"))
+    (more (specifier (run_format bold_styles None) (bytes "diff"))
     (more (text (bytes " "))
-    (more (specifier (run_format plain_styles (Inked Red)) (bytes "< left"))
+    (more (specifier (run_format plain_styles (Some Red)) (bytes "< left"))
     (more (text (bytes " / "))
-    (more (specifier (run_format plain_styles (Inked Green)) (bytes "right >"))
+    (more (specifier (run_format plain_styles (Some Green)) (bytes "right >"))
     (more (text (bytes "\n"))
-    (more (specifier (run_format plain_styles (Inked Red)) (bytes "<"))
+    (more (specifier (run_format plain_styles (Some Red)) (bytes "<"))
     (three_runs Red d s.left
     (more (text (bytes "\n"))
-    (more (specifier (run_format plain_styles (Inked Green)) (bytes ">"))
+    (more (specifier (run_format plain_styles (Some Green)) (bytes ">"))
     (three_runs Green d s.right shown.none))))))))))))
 
 -- the layout that the places of a message say
-unfoldable pub layout_by : List ℕ → ℕ → Compared → Maybe Members
-layout_by d from Nothing = none
-layout_by d from (At s) = some (placed (head_text from s.head d) d s)
+unfoldable pub layout_by : List ℕ → ℕ → Option Spans → Maybe Members
+layout_by d from None = none
+layout_by d from (Some s) = some (placed (head_text from s.head d) d s)
 
 -- the layout of a comparison
 unfoldable pub layout_for : Maybe Comparison → Maybe Members
@@ -140,9 +159,9 @@ pub record Ordered (v : Value) : Type 0 where
   pub ends : v.rest ≤ v.to
 
 -- the places of a message from place `from` up to place `to`, one after the other
-abbrev pub SpansWithin : ℕ → ℕ → Compared → Type 0
-SpansWithin from to Nothing = Unit {0}
-SpansWithin from to (At s) = ((from ≤ s.head) × (s.head < s.left.from)) × (((s.left.to ≤ s.right.from) × (s.right.to ≤ to)) × (Ordered s.left × Ordered s.right))
+abbrev pub SpansWithin : ℕ → ℕ → Option Spans → Type 0
+SpansWithin from to None = Unit {0}
+SpansWithin from to (Some s) = ((from ≤ s.head) × (s.head < s.left.from)) × (((s.left.to ≤ s.right.from) × (s.right.to ≤ to)) × (Ordered s.left × Ordered s.right))
 
 -- the places of two values
 pub record SpansOf (d : List ℕ) (head i e j f : ℕ) (s : Spans) : Type 0 where

@@ -1,11 +1,13 @@
-// Comparison reports: whether a message is one, and where its pieces stand.
+// Comparison reports: whether a message is one, and where its pieces stand. Text and places stay parameters of their own (d): each function looks at another
+// stretch, and hands back only a place.
 #![tactic(auto)]
 
 ghost use Rattle.std.specs.Prelude.{◌≡◌, List, [], ◌∷◌, ◌++◌, ◌+◌, ◌-◌, ◌<◌, ◌≤◌, length, get_or};
 ghost use Rattle.buffer.specs.Bytes.{part, same};
-ghost use Rattle.utf8.specs.Utf8.{within, trail};
 ghost use Rattle.comparisons.specs.Comparisons.{ends_with, value_in, comparison, characters};
-ghost use Rattle.comparisons.specs.Places.{trimmed, unended, LineAt, by_ending, EndingWithin, value_by, Long, Beginning, End, layout_by, layout_for, SpansWithin, SpansOf};
+ghost use Rattle.comparisons.specs.Places.{trimmed, unended, LineAt, FirstNewline, FirstStart, LastStart, by_ending, EndingWithin, value_between, BetweenMarks, Beginning, End, layout_by, layout_for, SpansWithin, SpansOf};
+
+use utf8::ones::goes_on;
 
 pub mod head;
 
@@ -28,12 +30,6 @@ pub struct Span {
 pub struct LastTwo {
     pub left: Span,
     pub right: Span,
-}
-
-#[derive(Clone, Copy)]
-pub enum Ending {
-    Few,
-    Two(LastTwo),
 }
 
 // Two places, one in each value.
@@ -60,35 +56,22 @@ pub struct Spans {
     pub right: Value,
 }
 
-#[derive(Clone, Copy)]
-pub enum Compared {
-    Nothing,
-    At(Spans),
-}
-
-// Whether a byte goes on with a character.
-fn goes_on(b: u8) -> bool
-    ensures { result ≡ within trail b }
-{
-    if b / 0x40 == 2 {
-        return true;
-    }
-    false
-}
-
 // The line that begins at place i of a text that ends at place e.
 pub(crate) fn line_at(d: &[u8], i: usize, e: usize) -> Lined
     requires { (i < e) × (e ≤ length d.now) }
     ensures { LineAt d.now i e result }
 {
-    let mut k = i;
-    while k < e {
-        if d[k] == b'\n' {
-            return ended_line(d, i, k);
-        }
-        k += 1;
+    match newline_in(&d[i..e]) {
+        Some(n) => ended_line(d, i, i + n),
+        None => Lined { end: e, next: e },
     }
-    Lined { end: e, next: e }
+}
+
+// Where the first newline of a text stands.
+fn newline_in(t: &[u8]) -> Option<usize>
+    ensures { FirstNewline t.now result }
+{
+    t.iter().position(|b| *b == b'\n')
 }
 
 // The line from place i up to the newline at place k.
@@ -96,13 +79,7 @@ fn ended_line(d: &[u8], i: usize, k: usize) -> Lined
     requires { (i ≤ k) × (k < length d.now) }
     ensures { (result.next ≡ k + 1) × (((i ≤ result.end) × (result.end ≤ k)) × (part i result.end d.now ≡ trimmed (part i k d.now))) }
 {
-    if i == k {
-        return Lined {
-            end: k,
-            next: k + 1,
-        };
-    }
-    if d[k - 1] == b'\r' {
+    if i < k && d[k - 1] == b'\r' {
         return Lined {
             end: k - 1,
             next: k + 1,
@@ -114,76 +91,58 @@ fn ended_line(d: &[u8], i: usize, k: usize) -> Lined
     }
 }
 
-// The last two lines of a message.
-fn last_two(d: &[u8], from: usize, to: usize) -> Ending
+// The last two lines of a message. It is no `for`: each line says where the next one begins (d).
+fn last_two(d: &[u8], from: usize, to: usize) -> Option<LastTwo>
     requires { (from ≤ to) × (to ≤ length d.now) }
     ensures { (by_ending d.now from result ≡ comparison (part from to d.now)) × EndingWithin from to result }
 {
     if from == to {
-        return Ending::Few;
+        return None;
     }
     let first = line_at(d, from, to);
     if first.next == to {
-        return Ending::Few;
+        return None;
     }
     let second = line_at(d, first.next, to);
-    let mut left = from;
-    let mut stop = first.end;
-    let mut right = first.next;
-    let mut last = second.end;
+    let mut left = Span {
+        from,
+        to: first.end,
+    };
+    let mut right = Span {
+        from: first.next,
+        to: second.end,
+    };
     let mut next = second.next;
     while next < to {
         let z = line_at(d, next, to);
         left = right;
-        stop = last;
-        right = next;
-        last = z.end;
+        right = Span {
+            from: next,
+            to: z.end,
+        };
         next = z.next;
     }
-    if left == from {
-        return Ending::Few;
+    if left.from == from {
+        return None;
     }
-    let l = Span {
-        from: left,
-        to: stop,
-    };
-    let r = Span {
-        from: right,
-        to: last,
-    };
-    Ending::Two(LastTwo { left: l, right: r })
+    Some(LastTwo { left, right })
 }
 
-// Whether d[from..to] is the text w.
-fn is_text(w: &[u8], d: &[u8], from: usize, to: usize) -> bool
-    requires { (from ≤ to) × (to ≤ length d.now) }
-    ensures { result ≡ same w.now (part from to d.now) }
+// The value that a line holds between its marks, if it does.
+fn value_of(d: &[u8], line: Span, mark: &[u8; 8]) -> Option<Span>
+    requires { (line.from ≤ line.to) × (line.to ≤ length d.now) }
+    ensures { (value_between d.now result ≡ value_in mark.now (part line.from line.to d.now)) × BetweenMarks line result }
 {
-    if w.len() != to - from {
-        return false;
+    if line.to - line.from < 9 || d[line.to - 1] != b'`' {
+        return None;
     }
-    let mut k = 0;
-    while k < w.len() {
-        if w[k] != d[from + k] {
-            return false;
-        }
-        k += 1;
+    if mark[..] != d[line.from..line.from + 8] {
+        return None;
     }
-    true
-}
-
-// Whether the line from place i up to place e is a value between its marks.
-fn is_value(d: &[u8], i: usize, e: usize, mark: &[u8]) -> bool
-    requires { ((i ≤ e) × (e ≤ length d.now)) × (length mark.now ≡ 8) }
-    ensures { (value_by d.now i e result ≡ value_in mark.now (part i e d.now)) × Long i e result }
-{
-    if e - i < 9 {
-        return false;
-    }
-    if d[e - 1] != b'`' {
-        return false;
-    }
-    is_text(mark, d, i, i + 8)
+    Some(Span {
+        from: line.from + 8,
+        to: line.to - 1,
+    })
 }
 
 // The place after the character that begins at place i.
@@ -191,14 +150,10 @@ fn character_end(d: &[u8], i: usize, e: usize) -> usize
     requires { (i < e) × (e ≤ length d.now) }
     ensures { ((i < result) × (result ≤ e)) × (characters (part i e d.now) ≡ part i result d.now ∷ characters (part result e d.now)) }
 {
-    let mut k = i + 1;
-    while k < e {
-        if !goes_on(d[k]) {
-            return k;
-        }
-        k += 1;
+    match first_start(&d[i + 1..e]) {
+        Some(n) => i + 1 + n,
+        None => e,
     }
-    k
 }
 
 // The place of the last character from place i up to place e.
@@ -206,31 +161,39 @@ fn character_start(d: &[u8], i: usize, e: usize) -> usize
     requires { (i < e) × (e ≤ length d.now) }
     ensures { ((i ≤ result) × (result < e)) × (characters (part i e d.now) ≡ characters (part i result d.now) ++ part result e d.now ∷ []) }
 {
-    let mut k = e - 1;
-    while i < k {
-        if !goes_on(d[k]) {
-            return k;
-        }
-        k -= 1;
+    match last_start(&d[i + 1..e]) {
+        Some(n) => i + 1 + n,
+        None => i,
     }
-    k
 }
 
-// The places up to which the texts from i up to e and from j up to f share their characters.
+// Where the first character of a text begins, if one does.
+fn first_start(t: &[u8]) -> Option<usize>
+    ensures { FirstStart t.now result }
+{
+    t.iter().position(|b| goes_on(*b) == 0)
+}
+
+// Where the last one begins.
+fn last_start(t: &[u8]) -> Option<usize>
+    ensures { LastStart t.now result }
+{
+    t.iter().rposition(|b| goes_on(*b) == 0)
+}
+
+// The places up to which the texts from i up to e and from j up to f share their characters. Both are walked along by characters, of one to four bytes.
+// It is no chain of iterators (d): the two places move on by what is found at each, and `shared_end` walks the other way.
 fn shared_beginning(d: &[u8], i: usize, e: usize, j: usize, f: usize) -> Pair
     requires { ((i ≤ e) × (e ≤ length d.now)) × ((j ≤ f) × (f ≤ length d.now)) }
     ensures { Beginning d.now i e j f result }
 {
     let mut p = i;
     let mut q = j;
-    while p < e {
-        if q == f {
-            return Pair { left: p, right: q };
-        }
+    while p < e && q < f {
         let a = character_end(d, p, e);
         let b = character_end(d, q, f);
-        if !is_text(&d[p..a], d, q, b) {
-            return Pair { left: p, right: q };
+        if d[p..a] != d[q..b] {
+            break;
         }
         p = a;
         q = b;
@@ -245,14 +208,11 @@ fn shared_end(d: &[u8], i: usize, e: usize, j: usize, f: usize) -> Pair
 {
     let mut p = e;
     let mut q = f;
-    while i < p {
-        if q == j {
-            return Pair { left: p, right: q };
-        }
+    while i < p && j < q {
         let a = character_start(d, i, p);
         let b = character_start(d, j, q);
-        if !is_text(&d[a..p], d, b, q) {
-            return Pair { left: p, right: q };
+        if d[a..p] != d[b..q] {
+            break;
         }
         p = a;
         q = b;
@@ -265,12 +225,8 @@ fn text_end(d: &[u8], from: usize, to: usize) -> usize
     requires { (from ≤ to) × (to ≤ length d.now) }
     ensures { ((from ≤ result) × (result ≤ to)) × (part from result d.now ≡ unended (part from to d.now)) }
 {
-    if from == to {
-        return to;
-    }
-    if d[to - 1] == b'\n' {
-        let last = ended_line(d, from, to - 1);
-        return last.end;
+    if from < to && d[to - 1] == b'\n' {
+        return ended_line(d, from, to - 1).end;
     }
     to
 }
@@ -281,63 +237,44 @@ fn is_closed(d: &[u8], from: usize, to: usize) -> bool
     ensures { result ≡ ends_with 0x60 (unended (part from to d.now)) }
 {
     let e = text_end(d, from, to);
-    if e == from {
-        return false;
-    }
-    d[e - 1] == b'`'
+    from < e && d[e - 1] == b'`'
 }
 
 // The places of the message from place `from` up to place `to`, where it is a comparison.
-pub fn comparison_in(d: &[u8], from: usize, to: usize) -> Compared
+pub fn comparison_in(d: &[u8], from: usize, to: usize) -> Option<Spans>
     requires { (from ≤ to) × (to ≤ length d.now) }
     ensures { (layout_by d.now from result ≡ layout_for (comparison (part from to d.now))) × SpansWithin from to result }
 {
     if !is_closed(d, from, to) {
-        return Compared::Nothing;
+        return None;
     }
-    let ending = last_two(d, from, to);
-    let Ending::Two(p) = ending else {
-        return Compared::Nothing;
-    };
-    if !is_value(d, p.left.from, p.left.to, b" left: `") {
-        return Compared::Nothing;
-    }
-    if !is_value(d, p.right.from, p.right.to, b"right: `") {
-        return Compared::Nothing;
-    }
-    let s = spans_of(
-        d,
-        p.left.from,
-        p.left.from + 8,
-        p.left.to - 1,
-        p.right.from + 8,
-        p.right.to - 1,
-    );
-    Compared::At(s)
+    let p = last_two(d, from, to)?;
+    let left = value_of(d, p.left, b" left: `")?;
+    let right = value_of(d, p.right, b"right: `")?;
+    Some(spans_of(d, p.left.from, left, right))
 }
 
-// The places of two values, from i up to e and from j up to f, of a message whose head ends at `head`.
-fn spans_of(d: &[u8], head: usize, i: usize, e: usize, j: usize, f: usize) -> Spans
-    requires { ((i ≤ e) × (e ≤ length d.now)) × ((j ≤ f) × (f ≤ length d.now)) }
-    ensures { SpansOf d.now head i e j f result }
+// The places of two values of a message whose head ends at `head`.
+fn spans_of(d: &[u8], head: usize, left: Span, right: Span) -> Spans
+    requires left_within { (left.from ≤ left.to) × (left.to ≤ length d.now) }
+    requires right_within { (right.from ≤ right.to) × (right.to ≤ length d.now) }
+    ensures { SpansOf d.now head left.from left.to right.from right.to result }
 {
-    let begun = shared_beginning(d, i, e, j, f);
-    let rest = shared_end(d, begun.left, e, begun.right, f);
-    let l = Value {
-        from: i,
-        begun: begun.left,
-        rest: rest.left,
-        to: e,
-    };
-    let r = Value {
-        from: j,
-        begun: begun.right,
-        rest: rest.right,
-        to: f,
-    };
+    let begun = shared_beginning(d, left.from, left.to, right.from, right.to);
+    let rest = shared_end(d, begun.left, left.to, begun.right, right.to);
     Spans {
         head,
-        left: l,
-        right: r,
+        left: Value {
+            from: left.from,
+            begun: begun.left,
+            rest: rest.left,
+            to: left.to,
+        },
+        right: Value {
+            from: right.from,
+            begun: begun.right,
+            rest: rest.right,
+            to: right.to,
+        },
     }
 }

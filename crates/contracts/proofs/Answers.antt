@@ -3,22 +3,23 @@
 use Prim.Native.Nat.{ℕ}
 use mathlib.Core.Path.{◌≡◌, refl, ap, sym, ◌∙◌}
 use mathlib.Core.List.{List}
+use Rattle.std.specs.Prelude.{Option, Some, None, Result, Ok, Err}
 use Rattle.buffer.specs.Table.{Maybe, none, some}
+use Rattle.refusals.specs.declared.Refusal.{Refusal}
+use Rattle.words.specs.Within.{told}
+use Rattle.segments.specs.declared.Cell.{Cell}
 use Rattle.segments.specs.Segments.{LogSegment}
 use Rattle.segments.specs.Sizes.{sizes}
 use Rattle.segments.specs.Pool.{chain_at}
 use Rattle.parts.specs.Parts.{segment_of}
-use Rattle.building.specs.declared.Reading.{Reading}
 use Rattle.building.specs.declared.Inner.{Inner}
 use Rattle.building.specs.declared.Items.{Items}
-use Rattle.building.specs.declared.ItemRead.{ItemRead}
 use Rattle.building.specs.Reading.{Made, make_or, Content}
-use Rattle.building.specs.Told.{last_made, tell, tell_inner, tell_items, tell_item}
-use Rattle.template.specs.declared.Parsed.{Parsed}
+use Rattle.building.specs.Told.{Read, last_made, tell, tell_inner, tell_items, tell_item}
 use Rattle.template.specs.Template.{read}
-use Rattle.template.specs.Parsing.{tell_parsed, ParsedKeeps}
-use Rattle.session.specs.declared.Opened.{Opened}
-use Rattle.session.specs.Walking.{tell_opened, OpenedKeeps}
+use Rattle.template.specs.Parsing.{Parsed, tell_parsed, ParsedKeeps}
+use Rattle.answer.specs.declared.Reading.{Reading}
+use Rattle.session.specs.Walking.{tell_opened, OpenedKeeps, Reads}
 use Rattle.settled.specs.Settled.{AnswerSettled}
 use Rattle.settled.proofs.Equal.{same}
 use Rattle.building.proofs as building
@@ -30,23 +31,26 @@ use Rattle.prefix.proofs as prefix
 
 -- ---- a segment: where it ends, and which one it is
 
-told_reading : (x y : Reading) (c d : List ℕ) → tell x c ≡ tell y d → x ≡ y
-unfolding tell last_made
-told_reading (Reading.Fit i k) (Reading.Fit j l) c d e =
-    let m : last_made c k ≡ last_made d l = cc in
-    let z : i ≡ j = cc in
-    let n : k ≡ l = ap (λ (x : Made). x.made) m in
-    cc
-told_reading (Reading.Fit i k) Reading.Misfit c d e = cc
-told_reading (Reading.Fit i k) (Reading.Refused s) c d e = cc
-told_reading Reading.Misfit (Reading.Fit j l) c d e = cc
-told_reading Reading.Misfit Reading.Misfit c d e = refl
-told_reading Reading.Misfit (Reading.Refused s) c d e = cc
-told_reading (Reading.Refused r) (Reading.Fit j l) c d e = cc
-told_reading (Reading.Refused r) Reading.Misfit c d e = cc
-told_reading (Reading.Refused r) (Reading.Refused s) c d e = cc
+told_by : {A B : Type 0} (f g : A → B) → ((a b : A) → f a ≡ g b → a ≡ b) → (x y : Read A) → told f x ≡ told g y → x ≡ y
+unfolding told
+told_by f g back (Ok (Some p)) (Ok (Some q)) e =
+    let z : p.0 ≡ q.0 = cc in
+    let a : p.1 ≡ q.1 = back p.1 q.1 (let w : f p.1 ≡ g q.1 = cc in w) in
+    λ n. Ok (Some (z n, a n))
+told_by f g back (Ok (Some p)) (Ok None) e = cc
+told_by f g back (Ok (Some p)) (Err s) e = cc
+told_by f g back (Ok None) (Ok (Some q)) e = cc
+told_by f g back (Ok None) (Ok None) e = refl
+told_by f g back (Ok None) (Err s) e = cc
+told_by f g back (Err r) (Ok (Some q)) e = cc
+told_by f g back (Err r) (Ok None) e = cc
+told_by f g back (Err r) (Err s) e = cc
 
-told_made : (m : Maybe LogSegment) (o x y : Reading) (c d : List ℕ) (n j : ℕ) → tell x c ≡ make_or (tell o c) n j m → tell y d ≡ make_or (tell o d) n j m → x ≡ y
+told_reading : (x y : Read ℕ) (c d : List Cell) → tell x c ≡ tell y d → x ≡ y
+unfolding last_made
+told_reading x y c d = told_by (last_made c) (last_made d) (λ k l e. ap (λ (m : Made). m.made) e) x y
+
+told_made : (m : Maybe LogSegment) (o x y : Read ℕ) (c d : List Cell) (n j : ℕ) → tell x c ≡ make_or (tell o c) n j m → tell y d ≡ make_or (tell o d) n j m → x ≡ y
 unfolding make_or
 told_made none o x y c d n j p q = told_reading x o c c p ∙ sym (told_reading y o d d q)
 told_made (some s) o x y c d n j p q = told_reading x y c d (same p q)
@@ -68,7 +72,7 @@ parse_argument_answered _ _ _ _ _ _ p q = told_reading _ _ _ _ (same p.0 q.0)
 
 -- ---- an item of a content
 
-told_inner : (x y : Inner) (m n : ℕ) (c d : List ℕ) → tell_inner x m c ≡ tell_inner y n d → x ≡ y
+told_inner : (x y : Inner) (m n : ℕ) (c d : List Cell) → tell_inner x m c ≡ tell_inner y n d → x ≡ y
 unfolding tell_inner
 told_inner Inner.Nothing Inner.Nothing m n c d e = refl
 told_inner Inner.Nothing Inner.One m n c d e = cc
@@ -80,57 +84,61 @@ told_inner Inner.Several Inner.Nothing m n c d e = cc
 told_inner Inner.Several Inner.One m n c d e = cc
 told_inner Inner.Several Inner.Several m n c d e = refl
 
-told_items : (x y : Items) (c d : List ℕ) → tell_items x c ≡ tell_items y d → x ≡ y
+told_items : (x y : Items) (c d : List Cell) → tell_items x c ≡ tell_items y d → x ≡ y
 unfolding tell_items
 told_items x y c d e =
     let i = told_inner x.inner y.inner x.made y.made c d (ap (λ (k : Content). k.taken) e) in
     λ n. record { parts = (e n).parts; inner = i n; made = (e n).made }
 
-told_item : (x y : ItemRead) (c d : List ℕ) → tell_item x c ≡ tell_item y d → x ≡ y
-unfolding tell_item
-told_item (ItemRead.Fit i a) (ItemRead.Fit j b) c d e =
-    let z : i ≡ j = cc in
-    let t : tell_items a c ≡ tell_items b d = cc in
-    let k = told_items a b c d t in
-    cc
-told_item (ItemRead.Fit i a) ItemRead.Misfit c d e = cc
-told_item (ItemRead.Fit i a) (ItemRead.Refused s) c d e = cc
-told_item ItemRead.Misfit (ItemRead.Fit j b) c d e = cc
-told_item ItemRead.Misfit ItemRead.Misfit c d e = refl
-told_item ItemRead.Misfit (ItemRead.Refused s) c d e = cc
-told_item (ItemRead.Refused r) (ItemRead.Fit j b) c d e = cc
-told_item (ItemRead.Refused r) ItemRead.Misfit c d e = cc
-told_item (ItemRead.Refused r) (ItemRead.Refused s) c d e = cc
+told_item : (x y : Read Items) (c d : List Cell) → tell_item x c ≡ tell_item y d → x ≡ y
+told_item x y c d = told_by (λ a. tell_items a c) (λ b. tell_items b d) (λ a b e. told_items a b c d e) x y
 
 parse_plain_item_answered : AnswerSettled 2 lists.parse_plain_item.Kinds.ps lists.parse_plain_item.Kinds.r lists.parse_plain_item.Reads.Post
 parse_plain_item_answered _ _ _ _ _ _ p q = told_item _ _ _ _ (same p.0 q.0)
 
 -- ---- a whole template: how many segments there are
 
-read_as : (m n : ℕ) (c d : List ℕ) → sizes (chain_at c m) ≡ m → sizes (chain_at d n) ≡ n → read (chain_at c m) ≡ read (chain_at d n) → m ≡ n
+read_as : (m n : ℕ) (c d : List Cell) → sizes (chain_at c m) ≡ m → sizes (chain_at d n) ≡ n → read (chain_at c m) ≡ read (chain_at d n) → m ≡ n
 read_as m n c d p q e =
     let s : chain_at c m ≡ chain_at d n = cc in
     sym p ∙ ap sizes s ∙ q
 
-told_parsed : (x y : Parsed) (c d : List ℕ) → ParsedKeeps c x → ParsedKeeps d y → tell_parsed x c ≡ tell_parsed y d → x ≡ y
-unfolding tell_parsed
-told_parsed (Parsed.Read m) (Parsed.Read n) c d p q e = ap Parsed.Read (read_as m n c d p.counted q.counted e)
-told_parsed (Parsed.Read m) (Parsed.Refused s) c d p q e = cc
-told_parsed (Parsed.Refused r) (Parsed.Read n) c d p q e = cc
-told_parsed (Parsed.Refused r) (Parsed.Refused s) c d p q e = cc
+told_parsed : (x y : Parsed) (c d : List Cell) → ParsedKeeps c x → ParsedKeeps d y → tell_parsed x c ≡ tell_parsed y d → x ≡ y
+told_parsed (Ok m) (Ok n) c d p q e = ap Ok (read_as m n c d p.counted q.counted e)
+told_parsed (Ok m) (Err s) c d p q e = cc
+told_parsed (Err r) (Ok n) c d p q e = cc
+told_parsed (Err r) (Err s) c d p q e = cc
 
 parse_answered : AnswerSettled 2 template.parse.Kinds.ps template.parse.Kinds.r template.parse.Reads.Post
 parse_answered _ _ _ _ _ _ p q = told_parsed _ _ _ _ p.1 q.1 (same p.0 q.0)
 
-told_opened : (x y : Opened) (s c d : List ℕ) → OpenedKeeps s c x → OpenedKeeps s d y → tell_opened x c ≡ tell_opened y d → x ≡ y
+told_opened : (x y : Parsed) (s : List ℕ) (c d : List Cell) → OpenedKeeps s c x → OpenedKeeps s d y → tell_opened x c ≡ tell_opened y d → x ≡ y
 unfolding tell_opened
-told_opened (Opened.Open m) (Opened.Open n) s c d p q e = ap Opened.Open (read_as m n c d p.keeps.counted q.keeps.counted e)
-told_opened (Opened.Open m) (Opened.Refused u) s c d p q e = cc
-told_opened (Opened.Refused r) (Opened.Open n) s c d p q e = cc
-told_opened (Opened.Refused r) (Opened.Refused u) s c d p q e = cc
+told_opened (Ok m) (Ok n) s c d p q e = ap Ok (read_as m n c d p.keeps.counted q.keeps.counted e)
+told_opened (Ok m) (Err u) s c d p q e = cc
+told_opened (Err r) (Ok n) s c d p q e = cc
+told_opened (Err r) (Err u) s c d p q e = cc
 
-open_sheet_answered : AnswerSettled 2 session.opening.open_sheet.Kinds.ps session.opening.open_sheet.Kinds.r session.opening.open_sheet.Reads.Post
-open_sheet_answered _ _ _ _ _ _ p q = told_opened _ _ _ _ _ p.1 q.1 (same p.0 q.0)
+open_answered : AnswerSettled 3 session.Sheet.open.Kinds.ps session.Sheet.open.Kinds.r session.Sheet.open.Reads.Post
+open_answered _ _ _ _ _ _ p q = told_opened _ _ _ _ _ p.1 q.1 (same p.0 q.0)
+
+-- ---- what is made of references: what stands there, if not where
+
+record Alike (x y : Reading) : Type 0 where
+  form : x.form ≡ y.form
+  settings : x.settings ≡ y.settings
+  template : x.template.now ≡ y.template.now
+  pool : x.cells.now ≡ y.cells.now
+  count : x.count ≡ y.count
+
+reading_alike : (d : List ℕ) (cells : List Cell) (n : ℕ) (x y : Reading) → Reads d cells n x → Reads d cells n y → Alike x y
+reading_alike d cells n x y p q = record {
+  form = same p.form q.form;
+  settings = same p.settings q.settings;
+  template = same p.template q.template;
+  pool = same p.pool q.pool;
+  count = same p.count q.count;
+}
 
 -- ---- a prefix: its length
 

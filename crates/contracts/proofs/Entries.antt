@@ -1,6 +1,11 @@
 -- Every contract of the functions below the entries settles its result and what is lent, each under the function's own name.
 -- p and q say that two results meet it; `past` and `here` lead to the lent buffer among the parameters. Assumes nothing.
 use mathlib.Core.Path.{refl}
+use denote.RattleType.{RattleType}
+use denote.Param.Laws.{Laws, IsCopy}
+use mir.Syntax.{Dict}
+use Rattle.measure.specs.declared.sink.Sink as sink
+use Rattle.std.specs.declared.clone.Clone as clone
 use Rattle.settled.specs.Settled.{Settled}
 use Rattle.settled.proofs.Equal.{same, here, past}
 use Rattle.packing.proofs as packing
@@ -21,15 +26,12 @@ answer_in_settled _ _ _ _ _ _ p q = (same p q, refl)
 pack_settled : Settled 0 packing.pack.Kinds.ps packing.pack.Kinds.r packing.pack.Reads.Post
 pack_settled _ _ _ _ _ _ p q = (same p q, refl)
 
-pack_refusal_settled : Settled 0 packing.pack_refusal.Kinds.ps packing.pack_refusal.Kinds.r packing.pack_refusal.Reads.Post
-pack_refusal_settled _ _ _ _ _ _ p q = (same p q, refl)
-
 -- ---- answer
 
-record_line_settled : Settled 4 answer.record_line.Kinds.ps answer.record_line.Kinds.r answer.record_line.Reads.Post
-record_line_settled _ _ _ _ _ _ p q = (same p.0 q.0, past (past (past (past (past (past (here (same p.1 q.1))))))))
+record_line_settled : Settled 4 answer.Reading.record_line.Kinds.ps answer.Reading.record_line.Kinds.r answer.Reading.record_line.Reads.Post
+record_line_settled _ _ _ _ _ _ p q = (same p.0 q.0, past (past (here (same p.1 q.1))))
 
-measure_record_settled : Settled 3 answer.measure_record.Kinds.ps answer.measure_record.Kinds.r answer.measure_record.Reads.Post
+measure_record_settled : Settled 3 answer.Reading.measure_record.Kinds.ps answer.Reading.measure_record.Kinds.r answer.Reading.measure_record.Reads.Post
 measure_record_settled _ _ _ _ _ _ p q = (same p q, refl)
 
 line_settled : Settled 3 answer.line.Kinds.ps answer.line.Kinds.r answer.line.Reads.Post
@@ -70,24 +72,23 @@ outcome_length_settled : Settled 3 outcomes.outcome_length.Kinds.ps outcomes.out
 outcome_length_settled _ _ _ _ _ _ p q = (same p.0 q.0, refl)
 
 put_outcome_settled : Settled 4 outcomes.put_outcome.Kinds.ps outcomes.put_outcome.Kinds.r outcomes.put_outcome.Reads.Post
-put_outcome_settled _ _ _ _ _ _ p q = (same p.0 q.0, past (past (past (past (past (past (here (same p.1 q.1))))))))
+put_outcome_settled _ _ _ _ _ _ p q = (same p.0 q.0, past (past (here (same p.1 q.1))))
 
-put_refusal_settled : Settled 1 outcomes.refusing.put_refusal.Kinds.ps outcomes.refusing.put_refusal.Kinds.r outcomes.refusing.put_refusal.Reads.Post
-put_refusal_settled _ _ _ _ _ _ p q = (same p.0 q.0, past (here (same p.1 q.1)))
+-- T is the type of the sink, K says what it is after a text, and what the buffer is
+module _ (T : RattleType) (L : Laws T) (C : IsCopy T) (K : sink.Ghosts T.Denot) (D : Dict) (E : clone.Ghosts T.Denot) (F : Dict) where
+  write_refusal_settled : Settled 2 (outcomes.refusing.write_refusal.Kinds.ps T L C) (outcomes.refusing.write_refusal.Kinds.r T L C) (outcomes.refusing.write_refusal.Reads.Post T L C K D E F)
+  write_refusal_settled _ _ _ _ _ _ p q = (same p.0 q.0, past (past (here (same p.1 q.1))))
 
 -- ---- session
 
+sheet_in_settled : Settled 1 session.sheet_in.Kinds.ps session.sheet_in.Kinds.r session.sheet_in.Reads.Post
+sheet_in_settled _ _ _ _ _ _ p q = (same p q, refl)
+
+records_settled : Settled 2 session.Sheet.records.Kinds.ps session.Sheet.records.Kinds.r session.Sheet.records.Reads.Post
+records_settled _ _ _ _ _ _ p q = (same p.0 q.0, refl)
+
 session_settled : Settled 2 session.session.Kinds.ps session.session.Kinds.r session.session.Reads.Post
 session_settled _ _ _ _ _ _ p q = (same p.0 q.0, past (here (same p.1.0 q.1.0)))
-
-put_record_settled : Settled 3 session.records.put_record.Kinds.ps session.records.put_record.Kinds.r session.records.put_record.Reads.Post
-put_record_settled _ _ _ _ _ _ p q = (same p.0 q.0, past (past (past (past (past (here (same p.1 q.1)))))))
-
-first_record_settled : Settled 1 session.walking.first_record.Kinds.ps session.walking.first_record.Kinds.r session.walking.first_record.Reads.Post
-first_record_settled _ _ _ _ _ _ p q = (same p.0 q.0, refl)
-
-next_record_settled : Settled 1 session.walking.next_record.Kinds.ps session.walking.next_record.Kinds.r session.walking.next_record.Reads.Post
-next_record_settled _ _ _ _ _ _ p q = (same p.0 q.0, refl)
 
 -- ---- caret
 

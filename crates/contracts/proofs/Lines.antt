@@ -1,6 +1,11 @@
 -- Every contract of the functions that make lines settles its result and what is lent, each under the function's own name.
 -- p and q say that two results meet it; `past` and `here` lead to the lent buffer among the parameters. Assumes nothing.
 use mathlib.Core.Path.{refl}
+use denote.RattleType.{RattleType}
+use denote.Param.Laws.{Laws, IsCopy}
+use mir.Syntax.{Dict}
+use Rattle.measure.specs.declared.sink.Sink as sink
+use Rattle.std.specs.declared.clone.Clone as clone
 use Rattle.settled.specs.Settled.{Settled}
 use Rattle.settled.proofs.Equal.{same, here, past}
 use Rattle.contracts.proofs.Told.{told_checked}
@@ -51,17 +56,8 @@ level_of_settled _ _ _ _ _ _ p q = (same p q, refl)
 source_of_settled : Settled 0 records.levels.source_of.Kinds.ps records.levels.source_of.Kinds.r records.levels.source_of.Reads.Post
 source_of_settled _ _ _ _ _ _ p q = (same p q, refl)
 
-has_file_settled : Settled 0 records.marks.has_file.Kinds.ps records.marks.has_file.Kinds.r records.marks.has_file.Reads.Post
-has_file_settled _ _ _ _ _ _ p q = (same p q, refl)
-
-has_line_settled : Settled 0 records.marks.has_line.Kinds.ps records.marks.has_line.Kinds.r records.marks.has_line.Reads.Post
-has_line_settled _ _ _ _ _ _ p q = (same p q, refl)
-
-has_module_settled : Settled 0 records.marks.has_module.Kinds.ps records.marks.has_module.Kinds.r records.marks.has_module.Reads.Post
-has_module_settled _ _ _ _ _ _ p q = (same p q, refl)
-
-has_serial_settled : Settled 0 records.marks.has_serial.Kinds.ps records.marks.has_serial.Kinds.r records.marks.has_serial.Reads.Post
-has_serial_settled _ _ _ _ _ _ p q = (same p q, refl)
+marks_settled : Settled 0 records.marks.marks.Kinds.ps records.marks.marks.Kinds.r records.marks.marks.Reads.Post
+marks_settled _ _ _ _ _ _ p q = (same p q, refl)
 
 u16_at_settled : Settled 1 records.numbers.u16_at.Kinds.ps records.numbers.u16_at.Kinds.r records.numbers.u16_at.Reads.Post
 u16_at_settled _ _ _ _ _ _ p q = (same p.0 q.0, refl)
@@ -132,9 +128,6 @@ closed_settled _ _ _ _ _ _ p q = (same p q, refl)
 none_settled : Settled 0 measure.growing.none.Kinds.ps measure.growing.none.Kinds.r measure.growing.none.Reads.Post
 none_settled _ _ _ _ _ _ p q = (same p q, refl)
 
-add_settled : Settled 1 measure.growing.add.Kinds.ps measure.growing.add.Kinds.r measure.growing.add.Reads.Post
-add_settled _ _ _ _ _ _ p q = (same p q, refl)
-
 pad_byte_settled : Settled 0 measure.padding.pad_byte.Kinds.ps measure.padding.pad_byte.Kinds.r measure.padding.pad_byte.Reads.Post
 pad_byte_settled _ _ _ _ _ _ p q = (same p q, refl)
 
@@ -142,12 +135,6 @@ before_text_settled : Settled 0 measure.padding.before_text.Kinds.ps measure.pad
 before_text_settled _ _ _ _ _ _ p q = (same p.0 q.0, refl)
 
 -- ---- comparisons
-
-add_head_settled : Settled 1 comparisons.head.add_head.Kinds.ps comparisons.head.add_head.Kinds.r comparisons.head.add_head.Reads.Post
-add_head_settled _ _ _ _ _ _ p q = (same p q, refl)
-
-put_head_settled : Settled 2 comparisons.head.put_head.Kinds.ps comparisons.head.put_head.Kinds.r comparisons.head.put_head.Reads.Post
-put_head_settled _ _ _ _ _ _ p q = (same p.0 q.0, past (past (past (here (same p.1 q.1)))))
 
 -- ---- dress
 
@@ -159,36 +146,9 @@ dress_bare_settled _ _ _ _ _ _ p q = (same p.0 q.0, here (same p.1 q.1))
 
 -- ---- decimal
 
-add_number_settled : Settled 0 decimal.add_number.Kinds.ps decimal.add_number.Kinds.r decimal.add_number.Reads.Post
-add_number_settled _ _ _ _ _ _ p q = (same p q, refl)
-
-number_len_settled : Settled 0 decimal.number_len.Kinds.ps decimal.number_len.Kinds.r decimal.number_len.Reads.Post
-number_len_settled _ _ _ _ _ _ p q = (same p q, refl)
-
-put_number_settled : Settled 1 decimal.put_number.Kinds.ps decimal.put_number.Kinds.r decimal.put_number.Reads.Post
-put_number_settled _ _ _ _ _ _ p q = (same p.0 q.0, past (here (same p.1 q.1)))
-
 -- ---- file_name
 
-add_file_name_settled : Settled 1 file_name.add_file_name.Kinds.ps file_name.add_file_name.Kinds.r file_name.add_file_name.Reads.Post
-add_file_name_settled _ _ _ _ _ _ p q = (same p q, refl)
-
-file_name_len_settled : Settled 1 file_name.file_name_len.Kinds.ps file_name.file_name_len.Kinds.r file_name.file_name_len.Reads.Post
-file_name_len_settled _ _ _ _ _ _ p q = (same p q, refl)
-
-put_file_name_settled : Settled 2 file_name.put_file_name.Kinds.ps file_name.put_file_name.Kinds.r file_name.put_file_name.Reads.Post
-put_file_name_settled _ _ _ _ _ _ p q = (same p.0 q.0, past (past (past (past (here (same p.1 q.1))))))
-
 -- ---- wording
-
-add_wording_settled : Settled 1 wording.add_wording.Kinds.ps wording.add_wording.Kinds.r wording.add_wording.Reads.Post
-add_wording_settled _ _ _ _ _ _ p q = (same p q, refl)
-
-wording_len_settled : Settled 1 wording.wording_len.Kinds.ps wording.wording_len.Kinds.r wording.wording_len.Reads.Post
-wording_len_settled _ _ _ _ _ _ p q = (same p q, refl)
-
-put_wording_settled : Settled 2 wording.put_wording.Kinds.ps wording.put_wording.Kinds.r wording.put_wording.Reads.Post
-put_wording_settled _ _ _ _ _ _ p q = (same p.0 q.0, past (past (here (same p.1 q.1))))
 
 -- ---- layouts
 
@@ -203,15 +163,6 @@ put_layout_settled _ _ _ _ _ _ p q = (same p.0 q.0, past (past (past (past (here
 
 -- ---- leaves
 
-add_text_settled : Settled 2 leaves.add_text.Kinds.ps leaves.add_text.Kinds.r leaves.add_text.Reads.Post
-add_text_settled _ _ _ _ _ _ p q = (same p q, refl)
-
-text_len_settled : Settled 2 leaves.text_len.Kinds.ps leaves.text_len.Kinds.r leaves.text_len.Reads.Post
-text_len_settled _ _ _ _ _ _ p q = (same p q, refl)
-
-put_text_settled : Settled 3 leaves.put_text.Kinds.ps leaves.put_text.Kinds.r leaves.put_text.Reads.Post
-put_text_settled _ _ _ _ _ _ p q = (same p.0 q.0, past (past (past (here (same p.1 q.1)))))
-
 add_field_settled : Settled 2 leaves.add_field.Kinds.ps leaves.add_field.Kinds.r leaves.add_field.Reads.Post
 add_field_settled _ _ _ _ _ _ p q = (same p q, refl)
 
@@ -223,7 +174,7 @@ put_field_settled _ _ _ _ _ _ p q = (same p.0 q.0, past (past (past (past (here 
 
 -- ---- rows
 
-members_len_settled : Settled 2 rows.members_len.Kinds.ps rows.members_len.Kinds.r rows.members_len.Reads.Post
+members_len_settled : Settled 3 rows.Material.members_len.Kinds.ps rows.Material.members_len.Kinds.r rows.Material.members_len.Reads.Post
 members_len_settled _ _ _ _ _ _ p q = (same p q, refl)
 
 member_after_settled : Settled 1 members.member_after.Kinds.ps members.member_after.Kinds.r members.member_after.Reads.Post
@@ -232,13 +183,34 @@ member_after_settled _ _ _ _ _ _ p q = (same p q, refl)
 forward_settled : Settled 2 members.forward.Kinds.ps members.forward.Kinds.r members.forward.Reads.Post
 forward_settled _ _ _ _ _ _ p q = (refl, past (past (here (same p q))))
 
-is_bare_settled : Settled 2 rows.segment.is_bare.Kinds.ps rows.segment.is_bare.Kinds.r rows.segment.is_bare.Reads.Post
+is_bare_settled : Settled 2 rows.Material.is_bare.Kinds.ps rows.Material.is_bare.Kinds.r rows.Material.is_bare.Reads.Post
 is_bare_settled _ _ _ _ _ _ p q = (same p q, refl)
 
-frame_at_settled : Settled 3 rows.segment.frame_at.Kinds.ps rows.segment.frame_at.Kinds.r rows.segment.frame_at.Reads.Post
+frame_at_settled : Settled 3 rows.Material.frame_at.Kinds.ps rows.Material.frame_at.Kinds.r rows.Material.frame_at.Reads.Post
 frame_at_settled _ _ _ _ _ _ p q = (same p q, refl)
 
 -- ---- line
 
 write_line_settled : Settled 5 line.write_line.Kinds.ps line.write_line.Kinds.r line.write_line.Reads.Post
 write_line_settled _ _ _ _ _ _ p q = (same p.0 q.0, past (past (past (past (past (past (here (same p.1 q.1))))))))
+
+-- ---- what any sink takes: T is the type of the sink, K says what it is after a text, and what the buffer is
+
+module _ (T : RattleType) (L : Laws T) (C : IsCopy T) (K : sink.Ghosts T.Denot) (D : Dict) (E : clone.Ghosts T.Denot) (F : Dict) where
+  take_settled : Settled 3 (measure.sink.Sink.take.Kinds.ps T L C) (measure.sink.Sink.take.Kinds.r T L C) (measure.sink.Sink.take.Reads.Post T L C K D E F)
+  take_settled _ _ _ _ _ _ p q = (same p.0 q.0, past (past (here (same p.1 q.1))))
+
+  write_head_settled : Settled 3 (comparisons.head.write_head.Kinds.ps T L C) (comparisons.head.write_head.Kinds.r T L C) (comparisons.head.write_head.Reads.Post T L C K D E F)
+  write_head_settled _ _ _ _ _ _ p q = (same p.0 q.0, past (past (past (past (here (same p.1 q.1))))))
+
+  write_number_settled : Settled 2 (decimal.write_number.Kinds.ps T L C) (decimal.write_number.Kinds.r T L C) (decimal.write_number.Reads.Post T L C K D E F)
+  write_number_settled _ _ _ _ _ _ p q = (same p.0 q.0, past (past (here (same p.1 q.1))))
+
+  write_file_name_settled : Settled 3 (file_name.write_file_name.Kinds.ps T L C) (file_name.write_file_name.Kinds.r T L C) (file_name.write_file_name.Reads.Post T L C K D E F)
+  write_file_name_settled _ _ _ _ _ _ p q = (same p.0 q.0, past (past (past (past (past (here (same p.1 q.1)))))))
+
+  write_wording_settled : Settled 3 (wording.write_wording.Kinds.ps T L C) (wording.write_wording.Kinds.r T L C) (wording.write_wording.Reads.Post T L C K D E F)
+  write_wording_settled _ _ _ _ _ _ p q = (same p.0 q.0, past (past (past (here (same p.1 q.1)))))
+
+  write_text_settled : Settled 3 (leaves.write_text.Kinds.ps T L C) (leaves.write_text.Kinds.r T L C) (leaves.write_text.Reads.Post T L C K D E F)
+  write_text_settled _ _ _ _ _ _ p q = (same p.0 q.0, past (past (past (past (here (same p.1 q.1))))))

@@ -5,7 +5,8 @@ use mathlib.Core.Path.{refl}
 use native.Mathlib.Omega.{arith}
 use Rattle.settled.specs.Settled.{Settled}
 use Rattle.settled.proofs.Equal.{same, here, past}
-use Rattle.contracts.proofs.Told.{told_metadata, told_format, told_parts, told_place}
+use Rattle.contracts.proofs.Told.{told_place}
+use Rattle.words.proofs.Answers.{told_settled}
 use Rattle.refusals.proofs as refusals
 use Rattle.buffer.proofs as buffer
 use Rattle.utf8.proofs as utf8
@@ -16,7 +17,6 @@ use Rattle.runs.proofs as runs
 use Rattle.letters.proofs as letters
 use Rattle.spelling.proofs as spelling
 use Rattle.words.proofs as words
-use Rattle.segments.proofs as segments
 use Rattle.pool.proofs as pool
 use Rattle.naming.proofs as naming
 use Rattle.parts.proofs as parts
@@ -43,9 +43,6 @@ put_settled _ _ _ _ _ _ p q = (same p.0 q.0, here (same p.1 q.1))
 fill_settled : Settled 1 buffer.fill.Kinds.ps buffer.fill.Kinds.r buffer.fill.Reads.Post
 fill_settled _ _ _ _ _ _ p q = (same p.0 q.0, here (same p.1 q.1))
 
-least_settled : Settled 0 buffer.numbers.least.Kinds.ps buffer.numbers.least.Kinds.r buffer.numbers.least.Reads.Post
-least_settled _ _ _ _ _ _ p q = (same p q, refl)
-
 -- ---- utf8
 
 is_ascii_settled : Settled 1 utf8.is_ascii.Kinds.ps utf8.is_ascii.Kinds.r utf8.is_ascii.Reads.Post
@@ -53,6 +50,12 @@ is_ascii_settled _ _ _ _ _ _ p q = (same p q, refl)
 
 is_utf8_settled : Settled 1 utf8.is_utf8.Kinds.ps utf8.is_utf8.Kinds.r utf8.is_utf8.Reads.Post
 is_utf8_settled _ _ _ _ _ _ p q = (same p q, refl)
+
+below_settled : Settled 0 utf8.ones.below.Kinds.ps utf8.ones.below.Kinds.r utf8.ones.below.Reads.Post
+below_settled _ _ _ _ _ _ p q = (same p q, refl)
+
+goes_on_settled : Settled 0 utf8.ones.goes_on.Kinds.ps utf8.ones.goes_on.Kinds.r utf8.ones.goes_on.Reads.Post
+goes_on_settled _ _ _ _ _ _ p q = (same p q, refl)
 
 -- ---- characters
 
@@ -81,7 +84,7 @@ is_among_settled _ _ _ _ _ _ p q = (same p q, refl)
 begun_by_settled : Settled 0 widths.counting.begun_by.Kinds.ps widths.counting.begun_by.Kinds.r widths.counting.begun_by.Reads.Post
 begun_by_settled _ _ _ _ _ _ p q = (same p q, refl)
 
-advance_settled : Settled 1 widths.counting.advance.Kinds.ps widths.counting.advance.Kinds.r widths.counting.advance.Reads.Post
+advance_settled : Settled 0 widths.counting.advance.Kinds.ps widths.counting.advance.Kinds.r widths.counting.advance.Reads.Post
 advance_settled _ _ _ _ _ _ p q = (same p q, refl)
 
 run_text_settled : Settled 1 widths.table.run_text.Kinds.ps widths.table.run_text.Kinds.r widths.table.run_text.Reads.Post
@@ -120,45 +123,10 @@ is_repeated_f_settled _ _ _ _ _ _ p q = (same p q, refl)
 -- ---- words
 
 parse_metadata_settled : Settled 1 words.parser.parse_metadata.Kinds.ps words.parser.parse_metadata.Kinds.r words.parser.parse_metadata.Reads.Post
-parse_metadata_settled _ _ _ _ _ _ p q = (told_metadata _ _ (same p.0 q.0), refl)
+parse_metadata_settled _ _ _ _ _ _ p q = (told_settled _ _ (same p.0 q.0), refl)
 
 parse_format_settled : Settled 1 words.parser.parse_format.Kinds.ps words.parser.parse_format.Kinds.r words.parser.parse_format.Reads.Post
-parse_format_settled _ _ _ _ _ _ p q = (told_format _ _ (same p.0 q.0), refl)
-
--- ---- segments
-
-metadata_number_settled : Settled 0 segments.coding.metadata_number.Kinds.ps segments.coding.metadata_number.Kinds.r segments.coding.metadata_number.Reads.Post
-metadata_number_settled _ _ _ _ _ _ p q = (same p.0 q.0, refl)
-
-colour_number_settled : Settled 0 segments.coding.colour_number.Kinds.ps segments.coding.colour_number.Kinds.r segments.coding.colour_number.Reads.Post
-colour_number_settled _ _ _ _ _ _ p q = (same p q, refl)
-
-styles_number_settled : Settled 0 segments.coding.styles_number.Kinds.ps segments.coding.styles_number.Kinds.r segments.coding.styles_number.Reads.Post
-styles_number_settled _ _ _ _ _ _ p q = (same p.0 q.0, refl)
-
-width_number_settled : Settled 0 segments.coding.width_number.Kinds.ps segments.coding.width_number.Kinds.r segments.coding.width_number.Reads.Post
-width_number_settled _ _ _ _ _ _ p q = (same p.0 q.0, refl)
-
-fill_number_settled : Settled 0 segments.coding.fill_number.Kinds.ps segments.coding.fill_number.Kinds.r segments.coding.fill_number.Reads.Post
-fill_number_settled _ _ _ _ _ _ p q = (same p.0 q.0, refl)
-
-kind_of_settled : Settled 0 segments.decoding.kind_of.Kinds.ps segments.decoding.kind_of.Kinds.r segments.decoding.kind_of.Reads.Post
-kind_of_settled _ _ _ _ _ _ p q = (same p q, refl)
-
-colour_of_settled : Settled 0 segments.decoding.colour_of.Kinds.ps segments.decoding.colour_of.Kinds.r segments.decoding.colour_of.Reads.Post
-colour_of_settled _ _ _ _ _ _ p q = (same p q, refl)
-
-styles_of_settled : Settled 0 segments.decoding.styles_of.Kinds.ps segments.decoding.styles_of.Kinds.r segments.decoding.styles_of.Reads.Post
-styles_of_settled _ _ _ _ _ _ p q = (same p q, refl)
-
-width_of_settled : Settled 0 segments.decoding.width_of.Kinds.ps segments.decoding.width_of.Kinds.r segments.decoding.width_of.Reads.Post
-width_of_settled _ _ _ _ _ _ p q = (same p q, refl)
-
-alignment_of_settled : Settled 0 segments.decoding.alignment_of.Kinds.ps segments.decoding.alignment_of.Kinds.r segments.decoding.alignment_of.Reads.Post
-alignment_of_settled _ _ _ _ _ _ p q = (same p q, refl)
-
-padding_of_settled : Settled 0 segments.decoding.padding_of.Kinds.ps segments.decoding.padding_of.Kinds.r segments.decoding.padding_of.Reads.Post
-padding_of_settled _ _ _ _ _ _ p q = (same p q, refl)
+parse_format_settled _ _ _ _ _ _ p q = (told_settled _ _ (same p.0 q.0), refl)
 
 -- ---- pool
 
@@ -174,9 +142,6 @@ back_at_settled _ _ _ _ _ _ p q = (same p.0 q.0, refl)
 last_at_settled : Settled 1 pool.last_at.Kinds.ps pool.last_at.Kinds.r pool.last_at.Reads.Post
 last_at_settled _ _ _ _ _ _ p q = (same p.0 q.0, refl)
 
-cell_at_settled : Settled 1 pool.cell_at.Kinds.ps pool.cell_at.Kinds.r pool.cell_at.Reads.Post
-cell_at_settled _ _ _ _ _ _ p q = (same p q, refl)
-
 -- ---- naming
 
 names_settled : Settled 1 naming.names.Kinds.ps naming.names.Kinds.r naming.names.Reads.Post
@@ -186,9 +151,6 @@ names_settled _ _ _ _ _ _ p q = (same p q, refl)
 
 no_parts_settled : Settled 0 parts.no_parts.Kinds.ps parts.no_parts.Kinds.r parts.no_parts.Reads.Post
 no_parts_settled _ _ _ _ _ _ p q = (same p q, refl)
-
-has_specifier_settled : Settled 0 parts.has_specifier.Kinds.ps parts.has_specifier.Kinds.r parts.has_specifier.Reads.Post
-has_specifier_settled _ _ _ _ _ _ p q = (same p q, refl)
 
 with_specifier_settled : Settled 0 parts.with_specifier.Kinds.ps parts.with_specifier.Kinds.r parts.with_specifier.Reads.Post
 with_specifier_settled _ _ _ _ _ _ p q = (same p q, refl)
@@ -207,17 +169,17 @@ plain_end_settled : Settled 1 lists.plain_end.Kinds.ps lists.plain_end.Kinds.r l
 plain_end_settled _ _ _ _ _ _ p q = (same p.0 q.0, refl)
 
 parse_word_settled : Settled 1 lists.parse_word.Kinds.ps lists.parse_word.Kinds.r lists.parse_word.Reads.Post
-parse_word_settled _ _ _ _ _ _ p q = (told_parts _ _ (same p.0 q.0), refl)
+parse_word_settled _ _ _ _ _ _ p q = (told_settled _ _ (same p.0 q.0), refl)
 
 parse_parameter_settled : Settled 1 lists.parse_parameter.Kinds.ps lists.parse_parameter.Kinds.r lists.parse_parameter.Reads.Post
-parse_parameter_settled _ _ _ _ _ _ p q = (told_parts _ _ (same p.0 q.0), refl)
+parse_parameter_settled _ _ _ _ _ _ p q = (told_settled _ _ (same p.0 q.0), refl)
 
 -- the number of words is bounded by any number that is large enough: here by the end
 further_words_settled : Settled 1 lists.further_words.Kinds.ps lists.further_words.Kinds.r lists.further_words.Reads.Post
 further_words_settled _ a _ _ _ _ p q =
     let to = a.1.1.0 in
     let h : to - a.1.0 ≤ to = omega arith in
-    (told_parts _ _ (same (p.0 to h) (q.0 to h)), refl)
+    (told_settled _ _ (same (p.0 to h) (q.0 to h)), refl)
 
 with_segment_settled : Settled 0 lists.with_segment.Kinds.ps lists.with_segment.Kinds.r lists.with_segment.Reads.Post
 with_segment_settled _ _ _ _ _ _ p q = (same p q, refl)
@@ -247,7 +209,7 @@ plain_piece_end_settled _ _ _ _ _ _ p q = (same p.0 q.0, refl)
 -- ---- unused
 
 unused_in_settled : Settled 1 unused.unused_in.Kinds.ps unused.unused_in.Kinds.r unused.unused_in.Reads.Post
-unused_in_settled _ _ _ _ _ _ p q = (told_place _ _ p.1 q.1 (same p.0 q.0), refl)
+unused_in_settled _ _ _ _ _ _ p q = (told_place _ _ (same p.0 q.0), refl)
 
 -- ---- template
 

@@ -3,45 +3,20 @@
 
 ghost use Rattle.std.specs.Prelude.{◌≡◌, ◌+◌, ◌<◌, ◌≤◌, ◌^◌, length};
 ghost use Rattle.buffer.specs.Bytes.{byte, part};
-ghost use Rattle.buffer.specs.Buffer.{Puts};
 ghost use Rattle.fields.specs.Texts.{decimal_text};
-ghost use Rattle.measure.specs.Measures.{grown, Small};
 
-use buffer::put;
-use measure::Measure;
-use measure::growing::add;
+use measure::sink::Sink;
 
-pub fn add_number(n: usize, a: Measure) -> Measure
+// The digits of n, taken by a sink: measured, counted or written.
+pub fn write_number<S: Sink>(n: usize, sink: S, out: &mut [u8]) -> S
     requires n_bound { n < 2 ^ 32 }
-    requires small { (Small a) × (a.len + length (decimal_text n) < 2 ^ 58) }
-    ensures { result ≡ grown a (decimal_text n) }
+    requires fits { S.fits sink out.old (decimal_text n) }
+    ensures value { result ≡ S.after sink (decimal_text n) }
+    ensures buffer { out.new ≡ S.left sink out.old (decimal_text n) }
 {
     let mut into = [0; 10];
     let from = decimal(n, &mut into);
-    add(a, &into[from..10])
-}
-
-pub fn number_len(n: usize) -> usize
-    requires { n < 2 ^ 32 }
-    ensures { result ≡ length (decimal_text n) }
-{
-    let mut left = n;
-    let mut k = 1;
-    while 10 <= left {
-        left = left / 10;
-        k += 1;
-    }
-    k
-}
-
-pub fn put_number(n: usize, out: &mut [u8], at: usize) -> usize
-    requires n_bound { n < 2 ^ 32 }
-    requires n_in_bounds { at + length (decimal_text n) ≤ length out.old }
-    ensures { Puts out.old out.new at (decimal_text n) result }
-{
-    let mut into = [0; 10];
-    let from = decimal(n, &mut into);
-    put(out, at, &into[from..10])
+    sink.take(&into[from..], out)
 }
 
 fn digit(n: usize) -> u8
@@ -51,7 +26,8 @@ fn digit(n: usize) -> u8
     b'0' + n as u8
 }
 
-// Writes the digits of n at the end of the ten places of `into`, from the last one on, and returns the place of the first.
+// Writes the digits of n at the end of the ten places of `into`, from the last one on, and returns the place of the first. It is no `for` over the
+// places (d), which would need an answer where they run out: n has no more digits than there are places.
 fn decimal(n: usize, into: &mut [u8]) -> usize
     requires { (n < 2 ^ 32) × (length into.old ≡ 10) }
     ensures { (result ≤ 10) × (part result 10 into.new ≡ decimal_text n) }
@@ -60,7 +36,7 @@ fn decimal(n: usize, into: &mut [u8]) -> usize
     let mut i = 9;
     while 10 <= left {
         into[i] = digit(left % 10);
-        left = left / 10;
+        left /= 10;
         i -= 1;
     }
     into[i] = digit(left);

@@ -35,12 +35,10 @@ module _ (u : Unused) (x : List Unused) where
       subst (λ (p : ℕ). OneAt p (u ∷ x) × NoneBefore p (u ∷ x)) m (inr w.0, (omega arith, w.1))
 
   one_more : (m : Maybe ℕ) → Says x m → Says (u ∷ x) (sooner (some (place_of u)) m)
-  unfolding sooner
   one_more none w = alone w
   one_more (some q) w = both q w (leb (place_of u) q) refl
 
 says : (x : List Unused) → Says x (first_of x)
-unfolding first_of
 says [] = refl
 says (u ∷ x) = one_more u x (first_of x) (says x)
 
@@ -51,7 +49,6 @@ pub first_says : (x : List Unused) (p : ℕ) → first_of x ≡ some p → OneAt
 first_says x p e = subst (Says x) e (says x)
 
 pub used_first : (x : List Unused) → x ≡ [] → first_of x ≡ none
-unfolding first_of
 used_first x e = ap first_of e
 
 at_most : (p q : ℕ) (x : List Unused) → OneAt p x → NoneBefore q x → q ≤ p

@@ -10,7 +10,7 @@ use Rattle.buffer.specs.Bytes.{bytes}
 use Rattle.buffer.specs.Table.{Maybe, none, some}
 use Rattle.words.specs.declared.Color.{Color}
 use Rattle.words.specs.declared.Styles.{Styles}
-use Rattle.colour.specs.declared.Ink.{Ink}
+use Rattle.std.specs.Prelude.{Option}
 use Rattle.colour.specs.Sequences.{esc, starts_with}
 use Rattle.colour.specs.Shown.{Shown, Members}
 use Rattle.colour.specs.Shown as shown
@@ -106,7 +106,7 @@ unfolding all_of
 free_all [] f = tt
 free_all (a ∷ x) f = free_append a (all_of x) f.0 (free_all x f.1)
 
-quiet_run : (y : Styles) (i : Ink) (t : List ℕ) (m : Members) → Free t → Quiets m → Quiets (one_run y i t m)
+quiet_run : (y : Styles) (i : Option Color) (t : List ℕ) (m : Members) → Free t → Quiets m → Quiets (one_run y i t m)
 unfolding one_run
 quiet_run y i [] m f q = q
 quiet_run y i (b ∷ t) m f q = (f, q)

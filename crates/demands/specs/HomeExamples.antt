@@ -40,13 +40,13 @@ use Rattle.demands.specs.HomeDemand.{AgreeAmong}
 -- ---- records
 
 -- a record of the old form, from the device: level, mask, the low byte of its line number, file and module, and the message `hello`
-abbrev pub laid : ℕ → ℕ → ℕ → List ℕ → List ℕ → List ℕ
-laid level mask line file module' =
+abbrev pub record_laid : ℕ → ℕ → ℕ → List ℕ → List ℕ → List ℕ
+record_laid level mask line file module' =
     0 ∷ level ∷ mask ∷ line ∷ 0 ∷ 0 ∷ 0 ∷ length file ∷ 0 ∷ length module' ∷ 0 ∷ 0 ∷ 0 ∷ 5 ∷ 0 ∷ file ++ (module' ++ bytes "hello")
 
 -- of a site: INFO, with that file
 abbrev pub site : List ℕ → List ℕ
-site file = laid 3 1 0 file []
+site file = record_laid 3 1 0 file []
 
 -- one of the new form: INFO, with that head
 abbrev pub by_head : List ℕ → List ℕ
@@ -72,8 +72,8 @@ abbrev pub unnamed_pairs : List Two
 unnamed_pairs =
     two 0 (bytes "{L} {s}") (site (bytes "/a")) (site (bytes "/b")) (prints (bytes "INFO  hello")) (prints (bytes "INFO  hello"))
     ∷ two 4 (bytes "{L} {s}") (site (bytes "/a")) (site (bytes "/a/long/path.rs")) (prints (bytes "INFO  hello")) (prints (bytes "INFO  hello"))
-    ∷ two 0 (bytes "{l}{s}") (laid 3 0 0 [] []) (laid 3 2 0 [] []) (prints (bytes "0   hello")) (prints (bytes "0   hello"))
-    ∷ two 0 (bytes "{F}{s}") (laid 0 1 0 (bytes "/a") []) (laid 0 1 0 (bytes "/b") []) (prints (bytes "hello")) (prints (bytes "hello"))
+    ∷ two 0 (bytes "{l}{s}") (record_laid 3 0 0 [] []) (record_laid 3 2 0 [] []) (prints (bytes "0   hello")) (prints (bytes "0   hello"))
+    ∷ two 0 (bytes "{F}{s}") (record_laid 0 1 0 (bytes "/a") []) (record_laid 0 1 0 (bytes "/b") []) (prints (bytes "hello")) (prints (bytes "hello"))
     ∷ two 0 (bytes "{F") (site (bytes "/a")) (site (bytes "/b")) (refuses 4) (refuses 4)
     ∷ two 8 (bytes "{L} {s}") (by_head (bytes "H-07")) (by_head (bytes "H-12")) (prints (bytes "INFO  hello")) (prints (bytes "INFO  hello"))
     ∷ []
@@ -82,7 +82,7 @@ unnamed_pairs =
 abbrev pub named_pairs : List Two
 named_pairs =
     two 0 (bytes "{F} {s}") (site (bytes "/a")) (site (bytes "/b")) (prints (bytes "/a hello")) (prints (bytes "/b hello"))
-    ∷ two 0 (bytes "{[{c}]%bold} {s}") (laid 3 4 0 [] (bytes "a::x")) (laid 3 4 0 [] (bytes "b::x")) (prints (bytes "[a] hello")) (prints (bytes "[b] hello"))
+    ∷ two 0 (bytes "{[{c}]%bold} {s}") (record_laid 3 4 0 [] (bytes "a::x")) (record_laid 3 4 0 [] (bytes "b::x")) (prints (bytes "[a] hello")) (prints (bytes "[b] hello"))
     ∷ two 8 (bytes "{d} {s}") (by_head (bytes "H-07")) (by_head (bytes "H-12")) (prints (bytes "H-07 hello")) (prints (bytes "H-12 hello"))
     ∷ []
 

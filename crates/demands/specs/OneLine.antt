@@ -1,5 +1,5 @@
 -- One line in its three modes, and why demand 3 asks that no text shown holds byte 27. Assumes nothing.
-use Rattle.std.specs.Prelude.{ℕ, ◌≡◌, refl, true, false, [], ◌∷◌}
+use Rattle.std.specs.Prelude.{Option, Some, None, ℕ, ◌≡◌, refl, true, false, [], ◌∷◌}
 use Rattle.buffer.specs.Bytes.{bytes}
 use Rattle.widths.specs.declared.Rule.{Rule}
 use Rattle.words.specs.declared.Alignment.TheVariants.{Left}
@@ -7,8 +7,7 @@ use Rattle.words.specs.declared.Color.TheVariants.{Red}
 use Rattle.words.specs.declared.Padding.TheVariants.{Space}
 use Rattle.words.specs.declared.Styles.{Styles}
 use Rattle.colour.specs.declared.Settings.{Settings}
-use Rattle.colour.specs.declared.Ink.{Ink}
-use Rattle.colour.specs.declared.Ink.TheVariants.{Bare, Inked}
+use Rattle.words.specs.declared.Color.{Color}
 use Rattle.colour.specs.declared.Format.{Format}
 use Rattle.colour.specs.Sequences.{visible}
 use Rattle.colour.specs.Shown.{text, specifier, group, Members, none, more, joined}
@@ -22,7 +21,7 @@ use Rattle.parts.specs.Parts.{unstyled}
 use Rattle.colour.specs.Modes.{off, off_by, plain, straight, coloured}
 
 -- left-aligned, padded with spaces, in a width
-abbrev left_in : ℕ → Styles → Ink → Format
+abbrev left_in : ℕ → Styles → Option Color → Format
 left_in w styles ink = record { width = w; alignment = Left; padding = Space; look = record { styles = styles; ink = ink } }
 
 -- bold alone
@@ -32,9 +31,9 @@ bold = record { bold = true; dimmed = false; underline = false; italic = false; 
 -- what `{[{L}]%bold%<9}|{s}` shows of an ERROR `hello`
 abbrev pub error_hello : Members
 error_hello =
-    more (group (left_in 9 bold Bare) (more (text (bytes "[")) (more (specifier (left_in 5 unstyled (Inked Red)) (bytes "ERROR")) (more (text (bytes "]")) none))))
+    more (group (left_in 9 bold None) (more (text (bytes "[")) (more (specifier (left_in 5 unstyled (Some Red)) (bytes "ERROR")) (more (text (bytes "]")) none))))
     (more (text (bytes "|"))
-    (more (specifier (left_in 0 unstyled Bare) (bytes "hello")) none))
+    (more (specifier (left_in 0 unstyled None) (bytes "hello")) none))
 
 -- two due, four inserted: visible in the crate's mode, visible in straight mode, plain; and the bytes of straight mode
 three_modes :
@@ -53,7 +52,7 @@ three_modes = refl
 
 -- what `{s:6}|` shows of `壁B3`, a site's name
 abbrev pub site_name : Members
-site_name = more (specifier (left_in 6 unstyled Bare) (bytes "壁B3")) (more (text (bytes "|")) none)
+site_name = more (specifier (left_in 6 unstyled None) (bytes "壁B3")) (more (text (bytes "|")) none)
 
 -- by the crate's rule it takes seven places of a screen, by the places rule six
 two_rules : joined (plain off) site_name ∷ joined (plain (off_by Rule.Places)) site_name ∷ [] ≡ bytes "壁B3   |" ∷ bytes "壁B3  |" ∷ []

@@ -1,43 +1,37 @@
--- Laws of `starts_with`, whether a text begins with another: as a comparison goes, byte after byte. Assumes nothing.
-use mathlib.Core.Path.{◌≡◌, refl, ap}
-use mathlib.Core.Bool.{Bool, true, false}
+-- Laws of `starts_with`, whether a text begins with another. Assumes nothing.
+use lib.Pointwise.{pointwise}
+use mathlib.Core.Path.{◌≡◌, refl, ap, sym, ◌∙◌}
+use mathlib.Core.Bool.{Bool, true, false, ◌&&◌}
 use mathlib.Core.List.{List, [], ◌∷◌, ◌++◌}
 use Prim.Native.Nat.{ℕ, ◌+◌, ◌<◌, ◌≤◌}
 use native.Mathlib.Omega.{arith}
 use lib.Dec.{eqb}
-use lib.ListN.{length, drop, get_or, drop_of_length-le}
-use borrow.Author.Tests.{eq-eqb, ne_eqb, eqb-true}
+use lib.ListN.{length, drop, take}
+use borrow.Author.Tests.{eq-eqb, ne_eqb, eqb-true, eqb-false}
 use Rattle.buffer.proofs.Parts.{drop_step}
 use Rattle.colour.specs.Sequences.{starts_with}
 
--- ---- one byte
+-- ---- as the library tells it
 
-either_way : (t u : Bool) → u ≡ false → elim t [ true ↦ u | false ↦ false ] ≡ false
-either_way true u e = e
-either_way false u e = refl
+other_way : (a b : ℕ) → eqb a b ≡ eqb b a
+other_way a b = by (eqb b a) refl
+  where
+    by : (c : Bool) → eqb b a ≡ c → eqb a b ≡ eqb b a
+    by true e = eq-eqb a b (sym (eqb-true b a e)) ∙ sym e
+    by false e = ne_eqb a b (λ h. eqb-false b a e (sym h)) ∙ sym e
 
--- a text that is shorter does not begin with it
-pub starts_short : (x s : List ℕ) → length s < length x → starts_with x s ≡ false
+pub starts_is : (x s : List ℕ) → pointwise eqb x (take (length x) s) ≡ starts_with x s
 unfolding starts_with
-starts_short [] s h = absurd (let y : ⊥ = omega arith in y)
-starts_short (a ∷ x) [] h = refl
-starts_short (a ∷ x) (b ∷ s) h = either_way (eqb b a) (starts_with x s) (starts_short x s (omega arith))
+starts_is [] s = refl
+starts_is (a ∷ x) [] = refl
+starts_is (a ∷ x) (b ∷ s) = ap (λ (t : Bool). t && pointwise eqb x (take (length x) s)) (other_way a b) ∙ by (eqb b a) (starts_is x s)
+  where
+    by : {r t : Bool} (c : Bool) → r ≡ t → (c && r) ≡ elim c as (λ _. Bool) [ true ↦ t | false ↦ false ]
+    by true e = e
+    by false e = refl
 
-module _ (x s : List ℕ) (i : ℕ) (h : i < length x) (g : i < length s) where
-  -- with the same byte at a place, the rest decides
-  pub starts_on : get_or s i 0 ≡ get_or x i 0 → starts_with (drop i x) (drop i s) ≡ starts_with (drop (i + 1) x) (drop (i + 1) s)
-  unfolding starts_with
-  starts_on e = rw (drop_step x i h, drop_step s i g, starts_with, eq-eqb (get_or s i 0) (get_or x i 0) e)
-
-  -- with another byte, the text does not begin so
-  pub starts_off : (get_or s i 0 ≡ get_or x i 0 → ⊥) → starts_with (drop i x) (drop i s) ≡ false
-  unfolding starts_with
-  starts_off n = rw (drop_step x i h, drop_step s i g, starts_with, ne_eqb (get_or s i 0) (get_or x i 0) n)
-
--- with no byte left to compare, it does
-pub starts_end : (x s : List ℕ) (i : ℕ) → length x ≤ i → starts_with (drop i x) s ≡ true
-unfolding starts_with
-starts_end x s i h = ap (λ (l : List ℕ). starts_with l s) (drop_of_length-le x h)
+pub starts_told : (x s : List ℕ) (r t : Bool) → r ≡ pointwise eqb x (take (length x) s) → r ≡ t → starts_with x s ≡ t
+starts_told x s r t e h = sym (starts_is x s) ∙ sym e ∙ h
 
 -- ---- what it says of the text
 

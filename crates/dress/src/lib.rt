@@ -5,7 +5,7 @@
 ghost use Rattle.std.specs.Prelude.{◌≡◌, ◌+◌, ◌≤◌, length};
 ghost use Rattle.buffer.specs.Bytes.{part};
 ghost use Rattle.buffer.specs.Buffer.{put_at};
-ghost use Rattle.colour.specs.Sequences.{reinserted, starts_with};
+ghost use Rattle.colour.specs.Sequences.{reinserted};
 ghost use Rattle.colour.specs.Looks.{prefix};
 ghost use Rattle.dress.specs.Around.{around, dressed};
 
@@ -13,7 +13,6 @@ use buffer::{fill, put};
 use colour::Format;
 use measure::padding::pad_byte;
 use prefix::{RESET, put_prefix};
-use words::Padding;
 
 // What stands around a text: its format, the padding on either side, and the bytes inserted into it.
 #[derive(Clone, Copy)]
@@ -25,17 +24,15 @@ pub struct Frame {
 }
 
 // The text from i up to e becomes the formatted text at `at`, with padding of l bytes before and r bytes after it; the place after
-// it is returned.
+// it is returned. It takes no `Frame` (d), whose bytes inserted it would not read: the text's place tells them.
 pub fn dress(out: &mut [u8], at: usize, i: usize, e: usize, f: Format, l: usize, r: usize) -> usize
     requires i_le_e { (i ≤ e) × (at + (length (prefix f.look) + (l + length (reinserted (prefix f.look) (part i e out.old)))) ≡ e) }
     requires r_in_bounds { e + (r + 4) ≤ length out.old }
     ensures { (result ≡ e + (r + 4)) × (out.new ≡ put_at out.old at (dressed f l r (part i e out.old))) }
 {
-    let look = f.look;
-    let mut bytes: [u8; 16] = [0; 16];
-    let n = put_prefix(look, &mut bytes);
-    let padding: Padding = f.padding;
-    lay(out, at, i, e, &bytes[0..n], pad_byte(padding), l, r)
+    let mut bytes = [0; 16];
+    let n = put_prefix(f.look, &mut bytes);
+    lay(out, at, i, e, &bytes[..n], pad_byte(f.padding), l, r)
 }
 
 // The same for a prefix p and a padding byte z.
@@ -57,9 +54,7 @@ pub fn dress_bare(out: &mut [u8], at: usize, i: usize, e: usize, p: &[u8]) -> us
     requires e_in_bounds { e + (0 + 4) ≤ length out.old }
     ensures { (result ≡ e + (0 + 4)) × (out.new ≡ put_at out.old at (around p.now 0 (reinserted p.now (part i e out.old)) 0 0)) }
 {
-    let o = put(out, at, p);
-    spread(out, o, i, e, p);
-    put(out, e, &RESET)
+    lay(out, at, i, e, p, 0, 0, 0)
 }
 
 // The text from i up to e goes to o, with p inserted after each reset, so that it ends at e. Where it needn't move there is nothing to insert: few
@@ -74,7 +69,8 @@ fn spread(out: &mut [u8], o: usize, i: usize, e: usize, p: &[u8])
 }
 
 // The same, whether it moves or not. All of the text stands in the buffer, so that the bytes at the place read are compared with the reset. Where
-// the place written has reached the place read nothing is left to insert, and the rest stands where it must.
+// the place written has reached the place read nothing is left to insert, and the rest stands where it must. It is no `for` (d): a turn reads one byte or
+// four, and writes over what it has read.
 fn insert(out: &mut [u8], o: usize, i: usize, e: usize, p: &[u8])
     requires { (i ≤ e) × ((e ≤ length out.old) × (o + length (reinserted p.now (part i e out.old)) ≡ e)) }
     ensures { out.new ≡ put_at out.old o (reinserted p.now (part i e out.old)) }
@@ -82,7 +78,7 @@ fn insert(out: &mut [u8], o: usize, i: usize, e: usize, p: &[u8])
     let mut w = o;
     let mut r = i;
     while w < r {
-        if starts_with(&out[r..e], &RESET) {
+        if out[r..e].starts_with(&RESET) {
             let v = put(out, w, &RESET);
             w = put(out, v, p);
             r += RESET.len();
@@ -92,21 +88,4 @@ fn insert(out: &mut [u8], o: usize, i: usize, e: usize, p: &[u8])
             r += 1;
         }
     }
-}
-
-// Whether the text s begins with the bytes x.
-fn starts_with(s: &[u8], x: &[u8]) -> bool
-    ensures { result ≡ starts_with x.now s.now }
-{
-    if s.len() < x.len() {
-        return false;
-    }
-    let mut i = 0;
-    while i < x.len() {
-        if s[i] != x[i] {
-            return false;
-        }
-        i += 1;
-    }
-    true
 }

@@ -1,19 +1,19 @@
--- Laws of `before_colons`, place by place. Assumes nothing.
+-- Laws of `before_colons`, by the first place of `::`. Assumes nothing.
 use mathlib.Core.Path.{◌≡◌, refl, ap, sym, ◌∙◌}
 use mathlib.Core.Bool.{Bool, true, false}
-use mathlib.Core.List.{List, [], ◌∷◌, ◌++◌, append-nil}
-use Prim.Native.Nat.{ℕ, ◌+◌, ◌<◌, ◌≤◌}
+use mathlib.Core.List.{List, [], ◌∷◌}
+use Prim.Native.Nat.{ℕ, zero, suc, ◌+◌, ◌-◌, ◌≤◌}
 use native.Mathlib.Omega.{arith}
 use lib.Dec.{eqb}
-use lib.ListN.{length, get_or}
-use lib.Seq.{append_snoc}
-use borrow.Author.Tests.{eq-eqb, ne_eqb}
+use lib.ListN.{take, drop, get_or}
+use borrow.Author.Tests.{eq-eqb, ne_eqb, eqb-true, eqb-false}
+use Rattle.std.specs.Prelude.{Some, None}
+use Rattle.std.proofs.lemmas.List.{take-take}
 use Rattle.buffer.specs.Bytes.{bytes, part, same}
-use Rattle.buffer.specs.Table.{Maybe, none, some}
-use Rattle.buffer.proofs.Parts.{part_step, part_snoc, part_end, part_length}
+use Rattle.buffer.specs.Table.{none, some}
 use Rattle.paths.specs.Paths.{after_byte, before_colons}
-use Rattle.fields.specs.Texts.{or_placeholder}
-use Rattle.paths.proofs.Pieces.{eqb_sym, part_two}
+use Rattle.fields.specs.Worded.{ColonsAt, FirstColons}
+use Rattle.paths.proofs.Pieces.{eqb_sym}
 
 -- ---- two colons
 
@@ -21,70 +21,59 @@ last_colon : (t : Bool) → elim t [ true ↦ true | false ↦ false ] ≡ t
 last_colon true = refl
 last_colon false = refl
 
-pub colon_first : (a b : ℕ) → a ≡ 0x3A → same (bytes "::") (a ∷ b ∷ []) ≡ eqb b 0x3A
+colon_first : (a b : ℕ) → a ≡ 0x3A → same (bytes "::") (a ∷ b ∷ []) ≡ eqb b 0x3A
 unfolding same
 colon_first a b h = rw (eq-eqb 0x3A a (sym h), same) (last_colon (eqb 0x3A b) ∙ eqb_sym 0x3A b)
 
-pub no_colon : (a b : ℕ) → (a ≡ 0x3A → ⊥) → same (bytes "::") (a ∷ b ∷ []) ≡ false
+no_colon : (a b : ℕ) → (a ≡ 0x3A → ⊥) → same (bytes "::") (a ∷ b ∷ []) ≡ false
 unfolding same
 no_colon a b h = rw (ne_eqb 0x3A a (λ e. h (sym e)), same)
 
--- ---- before them
+here : (a b : ℕ) (s : List ℕ) → ColonsAt (a ∷ b ∷ s) 0 → before_colons (a ∷ (b ∷ s)) ≡ some []
+unfolding before_colons
+here a b s h = rw (colon_first a b h.1 ∙ eq-eqb b 0x3A h.2, before_colons)
 
--- the bytes x before what is found
-abbrev pub ahead : List ℕ → Maybe (List ℕ) → Maybe (List ℕ)
-ahead x none = none
-ahead x (some s) = some (x ++ s)
+not_here : (a b : ℕ) (s : List ℕ) (t : Bool) → eqb a 0x3A ≡ t → (ColonsAt (a ∷ b ∷ s) 0 → ⊥) → same (bytes "::") (a ∷ b ∷ []) ≡ false
+not_here a b s true e h =
+    let x = eqb-true a 0x3A e in
+    colon_first a b x ∙ ne_eqb b 0x3A (λ y. h (omega arith, x, y))
+not_here a b s false e h = no_colon a b (eqb-false a 0x3A e)
 
-ahead_nothing : (m : Maybe (List ℕ)) → ahead [] m ≡ m
-ahead_nothing none = refl
-ahead_nothing (some s) = refl
+later : (a b : ℕ) (s : List ℕ) → (ColonsAt (a ∷ b ∷ s) 0 → ⊥) → before_colons (a ∷ (b ∷ s)) ≡ after_byte a (before_colons (b ∷ s))
+unfolding before_colons
+later a b s h = rw (not_here a b s (eqb a 0x3A) refl h, before_colons)
 
-ahead_next : (x : List ℕ) (b : ℕ) (m : Maybe (List ℕ)) → ahead x (after_byte b m) ≡ ahead (x ++ (b ∷ [])) m
+-- ---- one byte more before the text
+
+module _ (a : ℕ) (t : List ℕ) (k : ℕ) where
+  beyond : get_or (a ∷ t) (suc k + 1) 0 ≡ get_or t (k + 1) 0
+  beyond = let e : suc k + 1 ≡ suc (k + 1) = omega arith in ap (λ (n : ℕ). get_or (a ∷ t) n 0) e
+
+  moved_on : ColonsAt t k → ColonsAt (a ∷ t) (suc k)
+  moved_on h = (omega (arith, h.0), h.1, beyond ∙ h.2)
+
+  moved_back : ColonsAt (a ∷ t) (suc k) → ColonsAt t k
+  moved_back h = (omega (arith, h.0), h.1, sym beyond ∙ h.2)
+
+-- ---- what stands before them
+
+pub colons_found : (s : List ℕ) (n : ℕ) → FirstColons s (Some n) → before_colons s ≡ some (take n s)
 unfolding after_byte
-ahead_next x b none = refl
-ahead_next x b (some s) = ap some (sym (append_snoc x b s))
+colons_found [] n h = absurd (omega (arith, h.0.0))
+colons_found (a ∷ []) n h = absurd (omega (arith, h.0.0))
+colons_found (a ∷ (b ∷ s)) zero h = here a b s h.0
+colons_found (a ∷ (b ∷ s)) (suc n) h =
+    later a b s (h.1 0 (omega arith))
+    ∙ ap (after_byte a) (colons_found (b ∷ s) n (moved_back a (b ∷ s) n h.0, λ k l c. h.1 (suc k) (omega arith) (moved_on a (b ∷ s) k c)))
 
-here : (a b : ℕ) (s : List ℕ) → same (bytes "::") (a ∷ b ∷ []) ≡ true → before_colons (a ∷ (b ∷ s)) ≡ some []
-unfolding before_colons
-here a b s e = rw (e, before_colons)
+pub colons_none : (s : List ℕ) → FirstColons s None → before_colons s ≡ none
+unfolding before_colons after_byte
+colons_none [] h = refl
+colons_none (a ∷ []) h = refl
+colons_none (a ∷ (b ∷ s)) h = later a b s (h 0) ∙ ap (after_byte a) (colons_none (b ∷ s) (λ k c. h (suc k) (moved_on a (b ∷ s) k c)))
 
-later : (a b : ℕ) (s : List ℕ) → same (bytes "::") (a ∷ b ∷ []) ≡ false → before_colons (a ∷ (b ∷ s)) ≡ after_byte a (before_colons (b ∷ s))
-unfolding before_colons
-later a b s e = rw (e, before_colons)
-
-short : (s : List ℕ) → length s ≤ 1 → before_colons s ≡ none
-unfolding before_colons
-short [] h = refl
-short (a ∷ []) h = refl
-short (a ∷ (b ∷ s)) h = absurd (omega arith)
-
-pub colons_start : (d : List ℕ) (i e : ℕ) → before_colons (part i e d) ≡ ahead (part i i d) (before_colons (part i e d))
-colons_start d i e =
-    sym (ahead_nothing (before_colons (part i e d))) ∙ ap (λ (x : List ℕ). ahead x (before_colons (part i e d))) (sym (part_end d i))
-
-module _ (d : List ℕ) (e : ℕ) (g : e ≤ length d) where
-  pub colons_here : (i : ℕ) → i + 1 < e → same (bytes "::") (get_or d i 0 ∷ get_or d (i + 1) 0 ∷ []) ≡ true → before_colons (part i e d) ≡ some []
-  colons_here i h t = ap before_colons (part_two d i e h g) ∙ here (get_or d i 0) (get_or d (i + 1) 0) (part (i + 1 + 1) e d) t
-
-  pub colons_later : (i j : ℕ) → i ≤ j → j + 1 < e → same (bytes "::") (get_or d j 0 ∷ get_or d (j + 1) 0 ∷ []) ≡ false
-      → ahead (part i j d) (before_colons (part j e d)) ≡ ahead (part i (j + 1) d) (before_colons (part (j + 1) e d))
-  colons_later i j l h t =
-      ap (λ (s : List ℕ). ahead (part i j d) (before_colons s)) (part_two d j e h g)
-      ∙ ap (ahead (part i j d)) (later (get_or d j 0) (get_or d (j + 1) 0) (part (j + 1 + 1) e d) t)
-      ∙ ap (λ (s : List ℕ). ahead (part i j d) (after_byte (get_or d j 0) (before_colons s))) (sym (part_step d (j + 1) e h g))
-      ∙ ahead_next (part i j d) (get_or d j 0) (before_colons (part (j + 1) e d))
-      ∙ ap (λ (x : List ℕ). ahead x (before_colons (part (j + 1) e d))) (sym (part_snoc d i j l (omega arith)))
-
-  pub colons_none : (i : ℕ) → i ≤ e → e ≤ i + 1 → before_colons (part i e d) ≡ none
-  colons_none i l h = short (part i e d) (omega (arith, part_length d i e l g))
-
--- what is shown where colons are found, and where none are
-pub found_shown : (p x : List ℕ) (m n : Maybe (List ℕ)) → m ≡ ahead x n → n ≡ some [] → x ≡ or_placeholder p m
-unfolding or_placeholder
-found_shown p x m n e q =
-    sym (ap (or_placeholder p) (e ∙ ap (ahead x) q) ∙ append-nil x)
-
-pub none_shown : (p x : List ℕ) (m n : Maybe (List ℕ)) → m ≡ ahead x n → n ≡ none → p ≡ or_placeholder p m
-unfolding or_placeholder
-none_shown p x m n e q = sym (ap (or_placeholder p) (e ∙ ap (ahead x) q))
+-- the first n bytes of a part
+pub part_front : (d : List ℕ) (i e n : ℕ) → i + n ≤ e → part i (i + n) d ≡ take n (part i e d)
+part_front d i e n h =
+    let k : i + n - i ≡ n = omega arith in
+    ap (λ (m : ℕ). take m (drop i d)) k ∙ sym (take-take n (e - i) (drop i d) (omega arith))

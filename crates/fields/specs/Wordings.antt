@@ -4,7 +4,6 @@ use Rattle.buffer.specs.Bytes.{part}
 use Rattle.fields.specs.declared.Fixed.{Fixed}
 use Rattle.fields.specs.declared.Wording.{Wording}
 use Rattle.paths.specs.Paths.{file_name}
-use Rattle.record.specs.declared.Name.{Name}
 use Rattle.record.specs.Levels.{level_name}
 use Rattle.fields.specs.Texts.{no_crate, no_file, no_module, no_time, no_head, or_placeholder, decimal_text}
 
@@ -16,11 +15,7 @@ fixed_text Fixed.File = no_file
 fixed_text Fixed.ModulePath = no_module
 fixed_text Fixed.Time = no_time
 fixed_text Fixed.Head = no_head
-fixed_text Fixed.Error = level_name Name.Error
-fixed_text Fixed.Warn = level_name Name.Warn
-fixed_text Fixed.Info = level_name Name.Info
-fixed_text Fixed.Debug = level_name Name.Debug
-fixed_text Fixed.Trace = level_name Name.Trace
+fixed_text (Fixed.Level n) = level_name n
 
 -- the last n path components from place i up to place e, joined: "A present file with no component left gives `<file>`"
 abbrev pub name_text : ℕ → ℕ → ℕ → List ℕ → List ℕ

@@ -1,19 +1,19 @@
-// What each specifier shows of a record.
+// What each specifier shows of a record. Bytes and places stay two parameters, as in checks (d).
 #![tactic(auto)]
 
-ghost use Rattle.std.specs.Prelude.{◌≡◌, [], ◌∷◌, ◌+◌, ◌<◌, ◌≤◌, length, get_or};
+ghost use Rattle.std.specs.Prelude.{◌≡◌, cond, [], ◌∷◌, ◌+◌, ◌<◌, ◌≤◌, length, get_or};
 ghost use Rattle.buffer.specs.Bytes.{bytes, part, same};
 ghost use Rattle.record.specs.Placed.{laid_by, PlacesWithin};
 ghost use Rattle.record.specs.Levels.{name_of};
-ghost use Rattle.record.specs.Contents.{record_of};
+ghost use Rattle.record.specs.Contents.{marks, record_of};
 ghost use Rattle.paths.specs.Paths.{before_colons};
 ghost use Rattle.fields.specs.Texts.{no_crate, or_placeholder, wording};
 ghost use Rattle.fields.specs.Wordings.{fixed_text, Tells};
-ghost use Rattle.fields.specs.Worded.{Worded, WordedAnywhere, Compares};
+ghost use Rattle.fields.specs.Worded.{Worded, WordedAnywhere, Compares, FirstColons};
 
-use comparisons::{Compared, comparison_in};
+use comparisons::{Spans, comparison_in};
 use record::levels::{level_of, source_of};
-use record::marks::{has_file, has_module, has_serial};
+use record::marks::{Field, marks};
 use record::{Level, Name, Places, Source};
 use words::LogMetadata;
 
@@ -26,11 +26,7 @@ pub enum Fixed {
     ModulePath,
     Time,
     Head,
-    Error,
-    Warn,
-    Info,
-    Debug,
-    Trace,
+    Level(Name),
 }
 
 // Where a specifier's text comes from: a part of the record's bytes, a fixed text, a number, or the last so many components of a path.
@@ -43,32 +39,55 @@ pub enum Wording {
 }
 
 // The wording of the specifier m, for the record with the places p in the bytes d.
+#[tactic(auto, unfolding(crate::specs::Texts::wording, crate::specs::Texts::there, crate::specs::Texts::or_placeholder, crate::specs::Wordings::bytes_of, record::specs::Placed::laid_by, record::specs::Computing::computes))]
 pub fn wording_of(d: &[u8], p: Places, m: LogMetadata) -> Wording
     requires { PlacesWithin (length d.now) p }
     ensures { Tells result d.now (wording (record_of (laid_by p d.now)) m) }
 {
     match m {
         LogMetadata::CrateName => build_crate_name(d, p),
-        LogMetadata::FileName(n) => build_file_name(p, n as usize),
-        LogMetadata::FilePath => build_file_path(p),
+        // The components are looked for when they are shown: most templates name no `{f}`.
+        LogMetadata::FileName(n) => or_fixed(
+            p,
+            Field::File,
+            Wording::Components(p.file_from, p.file_to, usize::from(n)),
+            Fixed::File,
+        ),
+        LogMetadata::FilePath => or_fixed(
+            p,
+            Field::File,
+            Wording::Part(p.file_from, p.file_to),
+            Fixed::File,
+        ),
         LogMetadata::LineNumber => Wording::Number(p.line),
         LogMetadata::Log => Wording::Part(p.message_from, p.message_to),
         LogMetadata::LogLevel => Wording::Fixed(build_log_level(level_of(p.level))),
-        LogMetadata::ModulePath => build_module_path(p),
+        LogMetadata::ModulePath => or_fixed(
+            p,
+            Field::Module,
+            Wording::Part(p.module_from, p.module_to),
+            Fixed::ModulePath,
+        ),
         LogMetadata::Timestamp => build_timestamp(p),
-        LogMetadata::HeadSerial => build_head_serial(p),
+        // "`<head>` when absent": a serial that is present and empty shows nothing.
+        LogMetadata::HeadSerial => or_fixed(
+            p,
+            Field::Serial,
+            Wording::Part(p.serial_from, p.serial_to),
+            Fixed::Head,
+        ),
     }
 }
 
 // The comparison that a record's message is, by its places: "Take it over for device messages".
-pub fn comparison_of(d: &[u8], p: Places) -> Compared
+#[tactic(auto, unfolding(crate::specs::Lines::compared_from, record::specs::Placed::laid_by, record::specs::Computing::computes, comparisons::specs::Places::layout_by, comparisons::specs::Places::layout_for))]
+pub fn comparison_of(d: &[u8], p: Places) -> Option<Spans>
     requires { PlacesWithin (length d.now) p }
     ensures { Compares d.now p result }
 {
-    let source = source_of(p.source);
-    match source {
+    match source_of(p.source) {
         Source::Defmt => comparison_in(d, p.message_from, p.message_to),
-        Source::Host => Compared::Nothing,
+        Source::Host => None,
     }
 }
 
@@ -77,75 +96,42 @@ fn build_log_level(l: Level) -> Fixed
     ensures { fixed_text result ≡ name_of l }
 {
     match l {
-        Level::Print => Fixed::Empty,
-        Level::Named(name, _) => match name {
-            Name::Error => Fixed::Error,
-            Name::Warn => Fixed::Warn,
-            Name::Info => Fixed::Info,
-            Name::Debug => Fixed::Debug,
-            Name::Trace => Fixed::Trace,
-        },
-        Level::Refused => Fixed::Empty,
+        Level::Named(name, _) => Fixed::Level(name),
+        Level::Print | Level::Refused => Fixed::Empty,
     }
 }
 
 // "an empty timestamp or a host record gives `<time>`"
+#[tactic(auto, unfolding(crate::specs::Texts::time_of, crate::specs::Texts::not_empty, crate::specs::Texts::wording, crate::specs::Texts::there, crate::specs::Texts::or_placeholder, crate::specs::Wordings::bytes_of, record::specs::Placed::laid_by, record::specs::Computing::computes))]
 fn build_timestamp(p: Places) -> Wording
     ensures { WordedAnywhere p LogMetadata.Timestamp result }
 {
-    let source = source_of(p.source);
-    let Source::Defmt = source else {
-        return Wording::Fixed(Fixed::Time);
-    };
-    if p.timestamp_from < p.timestamp_to {
-        return Wording::Part(p.timestamp_from, p.timestamp_to);
+    match source_of(p.source) {
+        Source::Defmt if p.timestamp_from < p.timestamp_to => Wording::Part(
+            p.timestamp_from,
+            p.timestamp_to,
+        ),
+        _ => Wording::Fixed(Fixed::Time),
     }
-    Wording::Fixed(Fixed::Time)
 }
 
-fn build_file_path(p: Places) -> Wording
-    ensures { WordedAnywhere p LogMetadata.FilePath result }
+// What is shown of a field that may be absent, or its placeholder where the mask doesn't mark it.
+fn or_fixed(p: Places, field: Field, there: Wording, placeholder: Fixed) -> Wording
+    ensures { result ≡ cond (marks p.mask field) there (Wording.Fixed placeholder) }
 {
-    if has_file(p.mask) {
-        return Wording::Part(p.file_from, p.file_to);
+    if marks(p.mask, field) {
+        there
+    } else {
+        Wording::Fixed(placeholder)
     }
-    Wording::Fixed(Fixed::File)
 }
 
-// The components are looked for when they are shown: most templates name no `{f}`.
-fn build_file_name(p: Places, n: usize) -> Wording
-    ensures { WordedAnywhere p (LogMetadata.FileName n) result }
-{
-    if has_file(p.mask) {
-        return Wording::Components(p.file_from, p.file_to, n);
-    }
-    Wording::Fixed(Fixed::File)
-}
-
-fn build_module_path(p: Places) -> Wording
-    ensures { WordedAnywhere p LogMetadata.ModulePath result }
-{
-    if has_module(p.mask) {
-        return Wording::Part(p.module_from, p.module_to);
-    }
-    Wording::Fixed(Fixed::ModulePath)
-}
-
-// "`<head>` when absent": a serial that is present and empty shows nothing.
-fn build_head_serial(p: Places) -> Wording
-    ensures { WordedAnywhere p LogMetadata.HeadSerial result }
-{
-    if has_serial(p.mask) {
-        return Wording::Part(p.serial_from, p.serial_to);
-    }
-    Wording::Fixed(Fixed::Head)
-}
-
+#[tactic(auto, unfolding(crate::specs::Texts::wording, crate::specs::Texts::there, crate::specs::Texts::or_placeholder, crate::specs::Wordings::bytes_of, record::specs::Placed::laid_by, record::specs::Computing::computes))]
 fn build_crate_name(d: &[u8], p: Places) -> Wording
     requires { PlacesWithin (length d.now) p }
     ensures { Worded p LogMetadata.CrateName result d.now }
 {
-    if has_module(p.mask) {
+    if marks(p.mask, Field::Module) {
         return before_colons(d, p.module_from, p.module_to);
     }
     Wording::Fixed(Fixed::Crate)
@@ -156,23 +142,15 @@ fn before_colons(d: &[u8], from: usize, to: usize) -> Wording
     requires { (from ≤ to) × (to ≤ length d.now) }
     ensures { Tells result d.now (or_placeholder no_crate (before_colons (part from to d.now))) }
 {
-    let mut i = from;
-    while i + 1 < to {
-        if are_colons(d, i) {
-            return Wording::Part(from, i);
-        }
-        i += 1;
+    match colons_in(&d[from..to]) {
+        Some(n) => Wording::Part(from, from + n),
+        None => Wording::Fixed(Fixed::Crate),
     }
-    Wording::Fixed(Fixed::Crate)
 }
 
-// Whether `::` stands at the place i.
-fn are_colons(d: &[u8], i: usize) -> bool
-    requires { i + 1 < length d.now }
-    ensures { result ≡ same (bytes "::") (get_or d.now i 0 ∷ get_or d.now (i + 1) 0 ∷ []) }
+// Where the first `::` stands.
+fn colons_in(t: &[u8]) -> Option<usize>
+    ensures { FirstColons t.now result }
 {
-    if d[i] == b':' {
-        return d[i + 1] == b':';
-    }
-    false
+    t.windows(2).position(|w| matches!(w, b"::"))
 }

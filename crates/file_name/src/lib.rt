@@ -1,117 +1,48 @@
 // "`{f}` repeated n times: the last n path components joined by `/`".
 #![tactic(auto)]
 
-ghost use Rattle.std.specs.Prelude.{◌≡◌, ◌+◌, ◌<◌, ◌≤◌, ◌^◌, length};
-ghost use Rattle.buffer.specs.Buffer.{Puts};
+ghost use Rattle.std.specs.Prelude.{◌≡◌, ◌≤◌, length};
 ghost use Rattle.paths.specs.Paths.{slashed};
 ghost use Rattle.paths.specs.Remaining.{remaining};
-ghost use Rattle.measure.specs.Measures.{grown, Small};
 ghost use Rattle.fields.specs.Wordings.{name_text};
 
-use buffer::put;
-use measure::Measure;
-use measure::growing::add;
-use paths::{Component, first_shown, next_component};
+use measure::sink::Sink;
+use paths::{first_shown, next_component};
 
-// "A present file with no component left gives `<file>`".
-const FILE: [u8; 6] = *b"<file>";
-
-// What components are joined by.
-const SLASH: [u8; 1] = *b"/";
-
-// Measures the last n components of the path from place i up to place e.
-pub fn add_file_name(d: &[u8], i: usize, e: usize, n: usize, a: Measure) -> Measure
+// The last n components of the path from place i up to place e; path and places stay apart, as in paths (d). "A present file with no component left gives `<file>`".
+pub fn write_file_name<S: Sink>(
+    d: &[u8],
+    i: usize,
+    e: usize,
+    n: usize,
+    sink: S,
+    out: &mut [u8],
+) -> S
     requires i_le_e { (i ≤ e) × (e ≤ length d.now) }
-    requires small { (Small a) × (a.len + length (name_text i e n d.now) < 2 ^ 58) }
-    ensures { result ≡ grown a (name_text i e n d.now) }
+    requires fits { S.fits sink out.old (name_text i e n d.now) }
+    ensures value { result ≡ S.after sink (name_text i e n d.now) }
+    ensures buffer { out.new ≡ S.left sink out.old (name_text i e n d.now) }
 {
-    let first = first_shown(d, i, e, n);
-    let Component::At(from, to) = first else {
-        return add(a, &FILE);
+    let Some((from, to)) = first_shown(d, i, e, n) else {
+        return sink.take(b"<file>", out);
     };
-    let b = add(a, &d[from..to]);
-    add_slashed(d, to, e, b)
+    let rest = sink.take(&d[from..to], out);
+    write_slashed(d, to, e, rest, out)
 }
 
-// Measures the components that remain from place i on, a slash before each.
-fn add_slashed(d: &[u8], i: usize, e: usize, a: Measure) -> Measure
+// The components that remain from place i on, a slash before each. It is no `for`: each says where the next one is looked for (d).
+fn write_slashed<S: Sink>(d: &[u8], i: usize, e: usize, sink: S, out: &mut [u8]) -> S
     requires i_le_e { (i ≤ e) × (e ≤ length d.now) }
-    requires small { (Small a) × (a.len + length (slashed (remaining i e d.now)) < 2 ^ 58) }
-    ensures { result ≡ grown a (slashed (remaining i e d.now)) }
+    requires fits { S.fits sink out.old (slashed (remaining i e d.now)) }
+    ensures value { result ≡ S.after sink (slashed (remaining i e d.now)) }
+    ensures buffer { out.new ≡ S.left sink out.old (slashed (remaining i e d.now)) }
 {
     let mut k = i;
-    let mut b = a;
-    loop {
-        let c = next_component(d, k, e);
-        let Component::At(from, to) = c else {
-            return b;
-        };
-        b = add(b, &SLASH);
-        b = add(b, &d[from..to]);
+    let mut rest = sink;
+    while let Some((from, to)) = next_component(d, k, e) {
+        rest = rest.take(b"/", out);
+        rest = rest.take(&d[from..to], out);
         k = to;
     }
-}
-
-// The bytes of the last n components of the path from place i up to place e.
-pub fn file_name_len(d: &[u8], i: usize, e: usize, n: usize) -> usize
-    requires i_le_e { (i ≤ e) × (e ≤ length d.now) }
-    requires d_len_bound { length (name_text i e n d.now) < 2 ^ 58 }
-    ensures { result ≡ length (name_text i e n d.now) }
-{
-    let first = first_shown(d, i, e, n);
-    let Component::At(from, to) = first else {
-        return FILE.len();
-    };
-    to - from + slashed_len(d, to, e)
-}
-
-// The bytes of the components that remain from place i on, a slash before each.
-fn slashed_len(d: &[u8], i: usize, e: usize) -> usize
-    requires i_le_e { (i ≤ e) × (e ≤ length d.now) }
-    requires d_len_bound { length (slashed (remaining i e d.now)) < 2 ^ 58 }
-    ensures { result ≡ length (slashed (remaining i e d.now)) }
-{
-    let mut k = i;
-    let mut b = 0;
-    loop {
-        let c = next_component(d, k, e);
-        let Component::At(from, to) = c else {
-            return b;
-        };
-        b += SLASH.len() + (to - from);
-        k = to;
-    }
-}
-
-// Writes the last n components of the path from place i up to place e.
-pub fn put_file_name(d: &[u8], i: usize, e: usize, n: usize, out: &mut [u8], at: usize) -> usize
-    requires i_le_e { (i ≤ e) × (e ≤ length d.now) }
-    requires d_in_bounds { at + length (name_text i e n d.now) ≤ length out.old }
-    ensures { Puts out.old out.new at (name_text i e n d.now) result }
-{
-    let first = first_shown(d, i, e, n);
-    let Component::At(from, to) = first else {
-        return put(out, at, &FILE);
-    };
-    let y = put(out, at, &d[from..to]);
-    put_slashed(d, to, e, out, y)
-}
-
-// Writes the components that remain from place i on, a slash before each.
-fn put_slashed(d: &[u8], i: usize, e: usize, out: &mut [u8], at: usize) -> usize
-    requires i_le_e { (i ≤ e) × (e ≤ length d.now) }
-    requires d_in_bounds { at + length (slashed (remaining i e d.now)) ≤ length out.old }
-    ensures { Puts out.old out.new at (slashed (remaining i e d.now)) result }
-{
-    let mut k = i;
-    let mut y = at;
-    loop {
-        let c = next_component(d, k, e);
-        let Component::At(from, to) = c else {
-            return y;
-        };
-        y = put(out, y, &SLASH);
-        y = put(out, y, &d[from..to]);
-        k = to;
-    }
+    rest
 }

@@ -1,11 +1,9 @@
 -- The format of a specifier or a group, with defaults and the level's colour resolved (document 01, "Building a line"). Assumes nothing.
-use Rattle.std.specs.Prelude.{ℕ}
+use Rattle.std.specs.Prelude.{ℕ, Option, Some, None}
+use Rattle.words.specs.declared.Color.{Color}
 use Rattle.words.specs.declared.LogMetadata.{LogMetadata}
 use Rattle.words.specs.declared.LogMetadata.TheVariants.{CrateName, FileName, FilePath, LineNumber, Log, LogLevel, ModulePath, Timestamp, HeadSerial}
-use Rattle.words.specs.declared.Width.{Width}
 use Rattle.words.specs.declared.LogFormat.{LogFormat}
-use Rattle.colour.specs.declared.Ink.{Ink}
-use Rattle.colour.specs.declared.Ink.TheVariants.{Bare}
 use Rattle.colour.specs.declared.Format.{Format}
 use Rattle.record.specs.declared.Level.{Level}
 use Rattle.formats.specs.Levels.{severity, ink_for}
@@ -23,24 +21,24 @@ default_width Timestamp = 0
 default_width HeadSerial = 0
 
 -- "`{L}` takes its level's colour unless another is asked"
-abbrev pub own_ink : Level → LogMetadata → Ink
-own_ink l CrateName = Bare
-own_ink l (FileName n) = Bare
-own_ink l FilePath = Bare
-own_ink l LineNumber = Bare
-own_ink l Log = Bare
+abbrev pub own_ink : Level → LogMetadata → Option Color
+own_ink l CrateName = None
+own_ink l (FileName n) = None
+own_ink l FilePath = None
+own_ink l LineNumber = None
+own_ink l Log = None
 own_ink l LogLevel = severity l
-own_ink l ModulePath = Bare
-own_ink l Timestamp = Bare
-own_ink l HeadSerial = Bare
+own_ink l ModulePath = None
+own_ink l Timestamp = None
+own_ink l HeadSerial = None
 
 -- the width asked for, or the default one
-abbrev pub width_for : ℕ → Width → ℕ
-width_for default Width.Default = default
-width_for default (Width.Given n) = n
+abbrev pub width_for : ℕ → Option ℕ → ℕ
+width_for default None = default
+width_for default (Some n) = n
 
 -- what is asked, with a default width and a colour of its own
-unfoldable pub format_for : Level → ℕ → Ink → LogFormat → Format
+unfoldable pub format_for : Level → ℕ → Option Color → LogFormat → Format
 format_for l default own f = record {
   width = width_for default f.width;
   alignment = f.alignment;
@@ -54,4 +52,4 @@ specifier_format l m f = format_for l (default_width m) (own_ink l m) f
 
 -- the format of a group, for a level: no default width, no colour of its own
 abbrev pub group_format : Level → LogFormat → Format
-group_format l f = format_for l 0 Bare f
+group_format l f = format_for l 0 None f

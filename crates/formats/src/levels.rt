@@ -2,33 +2,25 @@
 ghost use Rattle.std.specs.Prelude.{◌≡◌};
 ghost use Rattle.formats.specs.Levels.{severity, warning};
 
-use colour::Ink;
 use record::{Level, Name};
+use words::Color;
 
 // The colour that the level number was taken apart into.
-pub(crate) fn color_for_log_level(l: Level) -> Ink
+pub(crate) fn color_for_log_level(l: Level) -> Option<Color>
     ensures { result ≡ severity l }
 {
     match l {
-        Level::Print => Ink::Bare,
-        Level::Named(_, c) => Ink::Inked(c),
-        Level::Refused => Ink::Bare,
+        Level::Named(_, c) => Some(c),
+        _ => None,
     }
 }
 
 // "`werror` colours 1 and 2 only"
-pub(crate) fn color_for_warnings(l: Level) -> Ink
+pub(crate) fn color_for_warnings(l: Level) -> Option<Color>
     ensures { result ≡ warning l }
 {
     match l {
-        Level::Print => Ink::Bare,
-        Level::Named(name, c) => match name {
-            Name::Error => Ink::Inked(c),
-            Name::Warn => Ink::Inked(c),
-            Name::Info => Ink::Bare,
-            Name::Debug => Ink::Bare,
-            Name::Trace => Ink::Bare,
-        },
-        Level::Refused => Ink::Bare,
+        Level::Named(Name::Error | Name::Warn, c) => Some(c),
+        _ => None,
     }
 }

@@ -7,10 +7,10 @@ ghost use Rattle.record.specs.Levels.{level_of};
 ghost use Rattle.formats.specs.Levels.{ink_for};
 ghost use Rattle.formats.specs.Formats.{default_width, own_ink, width_for, format_for, specifier_format, group_format};
 
-use colour::{Format, Ink, Look};
+use colour::{Format, Look};
 use levels::{color_for_log_level, color_for_warnings};
 use record::levels::level_of;
-use words::{LogColor, LogFormat, LogMetadata, Width};
+use words::{Color, LogColor, LogFormat, LogMetadata};
 
 pub mod levels;
 
@@ -23,24 +23,22 @@ pub fn specifier_format(number: usize, m: LogMetadata, f: LogFormat) -> Format
 pub fn group_format(number: usize, f: LogFormat) -> Format
     ensures { result ≡ group_format (level_of number) f }
 {
-    format_for(number, 0, Ink::Bare, f)
+    format_for(number, 0, None, f)
 }
 
 // What is asked for, over a default width and a colour of its own.
-fn format_for(number: usize, width: usize, own: Ink, f: LogFormat) -> Format
+#[tactic(auto, unfolding(crate::specs::Formats::format_for))]
+fn format_for(number: usize, width: usize, own: Option<Color>, f: LogFormat) -> Format
     ensures { result ≡ format_for (level_of number) width own f }
 {
-    let asked = f.width;
-    let color = f.color;
-    let styles = f.styles;
-    let alignment = f.alignment;
-    let padding = f.padding;
-    let ink = ink_for(number, own, color);
     Format {
-        width: width_for(width, asked),
-        alignment: alignment,
-        padding: padding,
-        look: Look { styles, ink },
+        width: width_for(width, f.width),
+        alignment: f.alignment,
+        padding: f.padding,
+        look: Look {
+            styles: f.styles,
+            ink: ink_for(number, own, f.color),
+        },
     }
 }
 
@@ -49,52 +47,36 @@ fn default_width(m: LogMetadata) -> usize
     ensures { result ≡ default_width m }
 {
     match m {
-        LogMetadata::CrateName => 0,
-        LogMetadata::FileName(_) => 0,
-        LogMetadata::FilePath => 0,
         LogMetadata::LineNumber => 4,
-        LogMetadata::Log => 0,
         LogMetadata::LogLevel => 5,
-        LogMetadata::ModulePath => 0,
-        LogMetadata::Timestamp => 0,
-        LogMetadata::HeadSerial => 0,
+        _ => 0,
     }
 }
 
 // "`{L}` takes its level's colour unless another is asked"
-fn own_ink(number: usize, m: LogMetadata) -> Ink
+fn own_ink(number: usize, m: LogMetadata) -> Option<Color>
     ensures { result ≡ own_ink (level_of number) m }
 {
-    match m {
-        LogMetadata::CrateName => Ink::Bare,
-        LogMetadata::FileName(_) => Ink::Bare,
-        LogMetadata::FilePath => Ink::Bare,
-        LogMetadata::LineNumber => Ink::Bare,
-        LogMetadata::Log => Ink::Bare,
-        LogMetadata::LogLevel => color_for_log_level(level_of(number)),
-        LogMetadata::ModulePath => Ink::Bare,
-        LogMetadata::Timestamp => Ink::Bare,
-        LogMetadata::HeadSerial => Ink::Bare,
+    if m == LogMetadata::LogLevel {
+        return color_for_log_level(level_of(number));
     }
+    None
 }
 
-fn width_for(own: usize, asked: Width) -> usize
+fn width_for(own: usize, asked: Option<u16>) -> usize
     ensures { result ≡ width_for own asked }
 {
-    match asked {
-        Width::Default => own,
-        Width::Given(n) => n as usize,
-    }
+    asked.map_or(own, usize::from)
 }
 
 // The colour that applies where one is asked for, or a specifier's own where none is.
-fn ink_for(number: usize, own: Ink, asked: LogColor) -> Ink
+fn ink_for(number: usize, own: Option<Color>, asked: Option<LogColor>) -> Option<Color>
     ensures { result ≡ ink_for (level_of number) own asked }
 {
     match asked {
-        LogColor::Unasked => own,
-        LogColor::Color(c) => Ink::Inked(c),
-        LogColor::SeverityLevel => color_for_log_level(level_of(number)),
-        LogColor::WarnError => color_for_warnings(level_of(number)),
+        Some(LogColor::Color(c)) => Some(c),
+        Some(LogColor::SeverityLevel) => color_for_log_level(level_of(number)),
+        Some(LogColor::WarnError) => color_for_warnings(level_of(number)),
+        None => own,
     }
 }

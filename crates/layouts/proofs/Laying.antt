@@ -9,7 +9,7 @@ use Rattle.buffer.proofs.Writing.{put_nil, join}
 use Rattle.colour.specs.declared.Settings.{Settings}
 use Rattle.measure.specs.declared.Measure.{Measure}
 use Rattle.measure.specs.Measures.{grown}
-use Rattle.measure.proofs.Measured.{grown_append, grown_nil}
+use Rattle.measure.specs.Measured.{grown_append, grown_nil}
 use Rattle.comparisons.specs.declared.Spans.{Spans}
 use Rattle.layouts.specs.declared.Run.{Run}
 use Rattle.layouts.specs.Runs.{no_run, runs_of, run_text, runs_text}

@@ -11,9 +11,9 @@ use lib.ListN.{length, get_or, drop}
 use Rattle.buffer.specs.Bytes.{part}
 use Rattle.buffer.proofs.Parts.{part_step, part_end}
 use Rattle.words.specs.declared.Styles.{Styles}
-use Rattle.colour.specs.declared.Ink.{Ink}
 use Rattle.words.specs.declared.Color.TheVariants.{Red, Green}
-use Rattle.colour.specs.declared.Ink.TheVariants.{Bare, Inked}
+use Rattle.words.specs.declared.Color.{Color}
+use Rattle.std.specs.Prelude.{Option, Some, None}
 use Rattle.colour.specs.declared.Settings.{Settings}
 use Rattle.colour.specs.declared.Format.{Format}
 use Rattle.colour.specs.Looks.{foreground, ink_codes, where_it_applies, codes, following, sequence, prefix}
@@ -22,10 +22,9 @@ use Rattle.colour.specs.Shown.{text, specifier, Members, more, text_of, joined}
 use Rattle.colour.specs.Shown as shown
 use Rattle.measure.specs.declared.Measure.{Measure}
 use Rattle.measure.specs.Measures.{nothing, grown, inserted_in, Small}
-use Rattle.measure.proofs.Measured.{small_nothing, small_grown}
+use Rattle.measure.specs.Measured.{small_nothing, small_grown}
 use Rattle.dress.proofs.Framing.{opening, Framed}
 use Rattle.comparisons.specs.declared.Spans.{Spans}
-use Rattle.comparisons.specs.declared.Compared.TheVariants.{At}
 use Rattle.comparisons.specs.Comparisons.{bare_format, run_format, one_run}
 use Rattle.comparisons.specs.Places.{three_runs, placed, SpansWithin}
 use Rattle.layouts.specs.declared.text.Text.{Text}
@@ -100,39 +99,39 @@ module _ (s : Settings) (d : List ℕ) where
   unfolding runs_text joined text_of
   in_look f t r rest m e g = ap (λ (x : List ℕ). x ++ runs_text s d rest) e ∙ ap (λ (x : List ℕ). formatted s f t ++ x) g
 
-  fixed_shown : (b : Bool) (i : Ink) (u v x y : ℕ) → run_text s d (run_of b i u v (Fixed x y)) ≡ formatted s (run_of b i u v (Fixed x y)).format (part x y fixed)
+  fixed_shown : (b : Bool) (i : Option Color) (u v x y : ℕ) → run_text s d (run_of b i u v (Fixed x y)) ≡ formatted s (run_of b i u v (Fixed x y)).format (part x y fixed)
   unfolding run_text is_left_out text_bytes
   fixed_shown b i u v x y = refl
 
-  fixed_look : (b : Bool) (i : Ink) (u v x y : ℕ) (rest : List Run) (m : Members) → runs_text s d rest ≡ joined s m
+  fixed_look : (b : Bool) (i : Option Color) (u v x y : ℕ) (rest : List Run) (m : Members) → runs_text s d rest ≡ joined s m
       → runs_text s d (run_of b i u v (Fixed x y) ∷ rest) ≡ joined s (more (specifier (run_of b i u v (Fixed x y)).format (part x y fixed)) m)
   fixed_look b i u v x y rest m g = in_look (run_of b i u v (Fixed x y)).format (part x y fixed) (run_of b i u v (Fixed x y)) rest m (fixed_shown b i u v x y) g
 
   fixed_bare : (x y : ℕ) (rest : List Run) (m : Members) → runs_text s d rest ≡ joined s m
-      → runs_text s d (run_of false Bare 0 0 (Fixed x y) ∷ rest) ≡ joined s (more (text (part x y fixed)) m)
+      → runs_text s d (run_of false None 0 0 (Fixed x y) ∷ rest) ≡ joined s (more (text (part x y fixed)) m)
   unfolding runs_text joined text_of
   fixed_bare x y rest m g =
-      ap (λ (z : List ℕ). z ++ runs_text s d rest) (fixed_shown false Bare 0 0 x y ∙ run_bare s bare_format (part x y fixed) refl (bare_opening s))
+      ap (λ (z : List ℕ). z ++ runs_text s d rest) (fixed_shown false None 0 0 x y ∙ run_bare s bare_format (part x y fixed) refl (bare_opening s))
       ∙ ap (λ (z : List ℕ). part x y fixed ++ z) g
 
-  head_shown : (b : Bool) (i : Ink) (u v from to : ℕ) → run_text s d (run_of b i u v (Head from to)) ≡ formatted s (run_of b i u v (Head from to)).format (text_bytes (Head from to) d)
+  head_shown : (b : Bool) (i : Option Color) (u v from to : ℕ) → run_text s d (run_of b i u v (Head from to)) ≡ formatted s (run_of b i u v (Head from to)).format (text_bytes (Head from to) d)
   unfolding run_text is_left_out
   head_shown b i u v from to = refl
 
-  head_look : (b : Bool) (i : Ink) (u v from to : ℕ) (rest : List Run) (m : Members) → runs_text s d rest ≡ joined s m
+  head_look : (b : Bool) (i : Option Color) (u v from to : ℕ) (rest : List Run) (m : Members) → runs_text s d rest ≡ joined s m
       → runs_text s d (run_of b i u v (Head from to) ∷ rest) ≡ joined s (more (specifier (run_of b i u v (Head from to)).format (text_bytes (Head from to) d)) m)
   head_look b i u v from to rest m g =
       in_look (run_of b i u v (Head from to)).format (text_bytes (Head from to) d) (run_of b i u v (Head from to)) rest m (head_shown b i u v from to) g
 
-  run_some : (y : Styles) (i : Ink) (t : List ℕ) (b : ℕ) (u : List ℕ) (m : Members) → t ≡ b ∷ u → joined s (one_run y i t m) ≡ joined s (more (specifier (run_format y i) t) m)
+  run_some : (y : Styles) (i : Option Color) (t : List ℕ) (b : ℕ) (u : List ℕ) (m : Members) → t ≡ b ∷ u → joined s (one_run y i t m) ≡ joined s (more (specifier (run_format y i) t) m)
   unfolding one_run
   run_some y i t b u m e = ap (λ (x : List ℕ). joined s (one_run y i x m)) e ∙ ap (λ (x : List ℕ). joined s (more (specifier (run_format y i) x) m)) (sym e)
 
-  run_none : (y : Styles) (i : Ink) (t : List ℕ) (m : Members) → t ≡ [] → joined s (one_run y i t m) ≡ joined s m
+  run_none : (y : Styles) (i : Option Color) (t : List ℕ) (m : Members) → t ≡ [] → joined s (one_run y i t m) ≡ joined s m
   unfolding one_run
   run_none y i t m e = ap (λ (x : List ℕ). joined s (one_run y i x m)) e
 
-  module _ (b : Bool) (c : Ink) (u v i j : ℕ) (rest : List Run) (m : Members) (h : i ≤ j) (g : j ≤ length d) (e : runs_text s d rest ≡ joined s m) where
+  module _ (b : Bool) (c : Option Color) (u v i j : ℕ) (rest : List Run) (m : Members) (h : i ≤ j) (g : j ≤ length d) (e : runs_text s d rest ≡ joined s m) where
     part_out : i ≡ j → is_left_out (Part i j) ≡ true
     unfolding is_left_out
     part_out q = eq-eqb i j q
@@ -200,7 +199,7 @@ fits_bold_green : (d : List ℕ) (x : Text) → TextWithin (length d) x → RunF
 unfolding prefix sequence following codes where_it_applies ink_codes foreground
 fits_bold_green d x h = record { width = refl; within = h; place = (omega arith, omega arith); prefix_is = refl }
 
-module _ (d : List ℕ) (from : ℕ) (c : Spans) (w : SpansWithin from (length d) (At c)) where
+module _ (d : List ℕ) (from : ℕ) (c : Spans) (w : SpansWithin from (length d) (Some c)) where
   right_place : (k : ℕ) → k ≤ c.right.to → k ≤ length d
   right_place k h = omega (arith, w.1.0.1)
 
@@ -284,21 +283,21 @@ module _ (d : List ℕ) (from : ℕ) (c : Spans) (w : SpansWithin from (length d
   pub runs_laid : (s : Settings) → runs_text s d (runs_of from c) ≡ laid_text s d from c
   unfolding placed three_runs text_bytes
   runs_laid s =
-      head_look s d true Bare 0 4 from c.head _ _
+      head_look s d true None 0 4 from c.head _ _
       (fixed_bare s d 0 1 _ _
-      (fixed_look s d true Bare 0 4 1 5 _ _
+      (fixed_look s d true None 0 4 1 5 _ _
       (fixed_bare s d 5 6 _ _
-      (fixed_look s d false (Inked Red) 4 9 6 12 _ _
+      (fixed_look s d false (Some Red) 4 9 6 12 _ _
       (fixed_bare s d 12 15 _ _
-      (fixed_look s d false (Inked Green) 9 14 15 22 _ _
+      (fixed_look s d false (Some Green) 9 14 15 22 _ _
       (fixed_bare s d 22 23 _ _
-      (fixed_look s d false (Inked Red) 4 9 23 24 _ _
-      (part_look s d false (Inked Red) 4 9 c.left.from c.left.begun _ _ w.1.1.0.begins left_begun
-      (part_look s d true (Inked Red) 14 21 c.left.begun c.left.rest _ _ w.1.1.0.goes_on left_rest
-      (part_look s d false (Inked Red) 4 9 c.left.rest c.left.to _ _ w.1.1.0.ends left_to
+      (fixed_look s d false (Some Red) 4 9 23 24 _ _
+      (part_look s d false (Some Red) 4 9 c.left.from c.left.begun _ _ w.1.1.0.begins left_begun
+      (part_look s d true (Some Red) 14 21 c.left.begun c.left.rest _ _ w.1.1.0.goes_on left_rest
+      (part_look s d false (Some Red) 4 9 c.left.rest c.left.to _ _ w.1.1.0.ends left_to
       (fixed_bare s d 24 25 _ _
-      (fixed_look s d false (Inked Green) 9 14 25 26 _ _
-      (part_look s d false (Inked Green) 9 14 c.right.from c.right.begun _ _ w.1.1.1.begins right_begun
-      (part_look s d true (Inked Green) 21 28 c.right.begun c.right.rest _ _ w.1.1.1.goes_on right_rest
-      (part_look s d false (Inked Green) 9 14 c.right.rest c.right.to [] shown.none w.1.1.1.ends right_to
+      (fixed_look s d false (Some Green) 9 14 25 26 _ _
+      (part_look s d false (Some Green) 9 14 c.right.from c.right.begun _ _ w.1.1.1.begins right_begun
+      (part_look s d true (Some Green) 21 28 c.right.begun c.right.rest _ _ w.1.1.1.goes_on right_rest
+      (part_look s d false (Some Green) 9 14 c.right.rest c.right.to [] shown.none w.1.1.1.ends right_to
       (nothing_joined s d)))))))))))))))))

@@ -2,8 +2,8 @@
 use Rattle.std.specs.Prelude.{ℕ, ◌≤◌, ◌≡◌, Bool, true, false, List, [], ◌∷◌, ◌++◌, eqb, length}
 use Rattle.buffer.specs.Bytes.{bytes, part}
 use Rattle.words.specs.declared.Color.TheVariants.{Red, Green}
-use Rattle.colour.specs.declared.Ink.{Ink}
-use Rattle.colour.specs.declared.Ink.TheVariants.{Bare, Inked}
+use Rattle.words.specs.declared.Color.{Color}
+use Rattle.std.specs.Prelude.{Option, Some, None}
 use Rattle.colour.specs.declared.Settings.{Settings}
 use Rattle.colour.specs.Looks.{prefix}
 use Rattle.colour.specs.Formatting.{formatted}
@@ -21,7 +21,7 @@ abbrev pub prefixes : List ℕ
 prefixes = bytes "\u{1b}[1m\u{1b}[31m\u{1b}[32m\u{1b}[1;31m\u{1b}[1;32m"
 
 -- a text in a look, and the place of the look's prefix
-abbrev pub run_of : Bool → Ink → ℕ → ℕ → Text → Run
+abbrev pub run_of : Bool → Option Color → ℕ → ℕ → Text → Run
 run_of b i from to x = record {
   format = run_format (record { bold = b; dimmed = false; underline = false; italic = false; strike = false }) i;
   from = from;
@@ -31,22 +31,22 @@ run_of b i from to x = record {
 
 -- the looks of a layout
 abbrev pub bare_run : Text → Run
-bare_run x = run_of false Bare 0 0 x
+bare_run x = run_of false None 0 0 x
 
 abbrev pub bold_run : Text → Run
-bold_run x = run_of true Bare 0 4 x
+bold_run x = run_of true None 0 4 x
 
 abbrev pub red_run : Text → Run
-red_run x = run_of false (Inked Red) 4 9 x
+red_run x = run_of false (Some Red) 4 9 x
 
 abbrev pub green_run : Text → Run
-green_run x = run_of false (Inked Green) 9 14 x
+green_run x = run_of false (Some Green) 9 14 x
 
 abbrev pub bold_red_run : Text → Run
-bold_red_run x = run_of true (Inked Red) 14 21 x
+bold_red_run x = run_of true (Some Red) 14 21 x
 
 abbrev pub bold_green_run : Text → Run
-bold_green_run x = run_of true (Inked Green) 21 28 x
+bold_green_run x = run_of true (Some Green) 21 28 x
 
 -- one that shows nothing
 abbrev pub no_run : Run

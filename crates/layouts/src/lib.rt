@@ -6,24 +6,23 @@ ghost use Rattle.std.specs.Prelude.{◌≡◌, ◌+◌, ◌<◌, ◌≤◌, ◌^
 ghost use Rattle.buffer.specs.Buffer.{Puts};
 ghost use Rattle.measure.specs.Measures.{grown, Small};
 ghost use Rattle.comparisons.specs.Places.{SpansWithin};
-ghost use Rattle.comparisons.specs.declared.Compared.TheVariants.{At};
 ghost use Rattle.layouts.specs.Runs.{run_of, bare_run, bold_run, red_run, green_run, bold_red_run, bold_green_run, no_run, runs_of, RunFits, is_left_out, run_text, laid_text};
 
-use colour::{Format, Ink, Look, Settings};
-use comparisons::{Spans, Value};
+use colour::{Format, Look, Settings};
+use comparisons::Spans;
 use dress::dress_bare;
 use measure::Measure;
 use measure::additions::inserted_in;
 use measure::framing::{closed, opened};
 use measure::growing::none;
+use measure::sink::Place;
 use prefix::length::prefix_len;
-use text::{Text, add_text, put_text};
-use widths::Rule;
+use text::{Text, write_text};
 use words::{Alignment, Color, Padding, Styles};
 
 pub mod text;
 
-// A text in a look, and the place of the look's prefix.
+// A text in a look, and the place of the look's prefix; it is no slice of it, for the reason that `Text` gives.
 #[derive(Clone, Copy)]
 pub struct Run {
     pub format: Format,
@@ -38,15 +37,12 @@ const PREFIXES: [u8; 28] = *b"\x1b[1m\x1b[31m\x1b[32m\x1b[1;31m\x1b[1;32m";
 // How many runs a layout has.
 const RUNS: usize = 17;
 
-fn run_of(bold: bool, ink: Ink, from: usize, to: usize, text: Text) -> Run
+fn run_of(bold: bool, ink: Option<Color>, from: usize, to: usize, text: Text) -> Run
     ensures { result ≡ run_of bold ink from to text }
 {
     let styles = Styles {
         bold,
-        dimmed: false,
-        underline: false,
-        italic: false,
-        strike: false,
+        ..Styles::default()
     };
     Run {
         format: Format {
@@ -64,46 +60,47 @@ fn run_of(bold: bool, ink: Ink, from: usize, to: usize, text: Text) -> Run
 fn bare(x: Text) -> Run
     ensures { result ≡ bare_run x }
 {
-    run_of(false, Ink::Bare, 0, 0, x)
+    run_of(false, None, 0, 0, x)
 }
 
 fn bold(x: Text) -> Run
     ensures { result ≡ bold_run x }
 {
-    run_of(true, Ink::Bare, 0, 4, x)
+    run_of(true, None, 0, 4, x)
 }
 
 fn red(x: Text) -> Run
     ensures { result ≡ red_run x }
 {
-    run_of(false, Ink::Inked(Color::Red), 4, 9, x)
+    run_of(false, Some(Color::Red), 4, 9, x)
 }
 
 fn green(x: Text) -> Run
     ensures { result ≡ green_run x }
 {
-    run_of(false, Ink::Inked(Color::Green), 9, 14, x)
+    run_of(false, Some(Color::Green), 9, 14, x)
 }
 
 fn bold_red(x: Text) -> Run
     ensures { result ≡ bold_red_run x }
 {
-    run_of(true, Ink::Inked(Color::Red), 14, 21, x)
+    run_of(true, Some(Color::Red), 14, 21, x)
 }
 
 fn bold_green(x: Text) -> Run
     ensures { result ≡ bold_green_run x }
 {
-    run_of(true, Ink::Inked(Color::Green), 21, 28, x)
+    run_of(true, Some(Color::Green), 21, 28, x)
 }
 
-// The run k of the layout of a message that begins at `from`: the head, the title, and the two values below each other.
+// The run k of the layout of a message that begins at `from`: the head, the title, and the two values below each other. It is asked for by its number and is
+// no array (d): seventeen runs would stand on the stack.
 fn run_at(from: usize, c: Spans, k: usize) -> Run
     requires { k < 17 }
     ensures { result ≡ get_or (runs_of from c) k no_run }
 {
-    let l: Value = c.left;
-    let r: Value = c.right;
+    let l = c.left;
+    let r = c.right;
     match k {
         0 => bold(Text::Head(from, c.head)),
         1 => bare(Text::Fixed(0, 1)),
@@ -130,32 +127,27 @@ fn run_at(from: usize, c: Spans, k: usize) -> Run
 fn is_left_out(x: Text) -> bool
     ensures { result ≡ is_left_out x }
 {
-    let Text::Part(i, j) = x else {
-        return false;
-    };
-    i == j
+    matches!(x, Text::Part(i, j) if i == j)
 }
 
-// Measures a run on top of `a`.
+// Measures a run on top of `a`. It and `put_run` are no single function of a sink (d): a prefix is measured by its length alone, and a text that is written
+// is dressed where it stands.
 fn add_run(d: &[u8], s: Settings, r: Run, a: Measure) -> Measure
     requires run_fits { RunFits d.now r }
     requires small { (Small a) × (a.len + length (run_text s d.now r) < 2 ^ 57) }
     ensures { result ≡ grown a (run_text s d.now r) }
 {
-    let x: Text = r.text;
-    if is_left_out(x) {
+    if is_left_out(r.text) {
         return a;
     }
-    let f: Format = r.format;
-    let k = f.look;
-    if prefix_len(s, k) == 0 {
-        return add_text(d, x, a);
+    let f = r.format;
+    if prefix_len(s, f.look) == 0 {
+        return write_text(d, r.text, a, &mut []);
     }
-    let rule: Rule = s.rule;
-    let m = add_text(d, x, none(rule));
+    let m = write_text(d, r.text, none(s.rule), &mut []);
     let n = inserted_in(s, f, m);
     let b = opened(a, s, f, 0);
-    let c = add_text(d, x, b);
+    let c = write_text(d, r.text, b, &mut []);
     closed(c, s, f, n, 0)
 }
 
@@ -165,64 +157,53 @@ fn put_run(d: &[u8], s: Settings, r: Run, out: &mut [u8], at: usize) -> usize
     requires r_in_bounds { (at + length (run_text s d.now r) ≤ length out.old) × (length (run_text s d.now r) < 2 ^ 57) }
     ensures { Puts out.old out.new at (run_text s d.now r) result }
 {
-    let x: Text = r.text;
-    if is_left_out(x) {
+    if is_left_out(r.text) {
         return at;
     }
-    let f: Format = r.format;
-    let k = f.look;
-    let p = prefix_len(s, k);
+    let p = prefix_len(s, r.format.look);
     if p == 0 {
-        return put_text(d, x, out, at);
+        let Place(e) = write_text(d, r.text, Place(at), out);
+        return e;
     }
-    let rule: Rule = s.rule;
-    let m = add_text(d, x, none(rule));
-    let n = inserted_in(s, f, m);
+    let m = write_text(d, r.text, none(s.rule), &mut []);
+    let n = inserted_in(s, r.format, m);
     let b = at + (p + n);
-    let e = put_text(d, x, out, b);
-    let from = r.from;
-    let to = r.to;
-    let prefixes = PREFIXES;
-    dress_bare(out, at, b, e, &prefixes[from..to])
+    let Place(e) = write_text(d, r.text, Place(b), out);
+    dress_bare(out, at, b, e, &PREFIXES[r.from..r.to])
 }
 
-// Measures a layout on top of `a`.
+// Measures a layout on top of `a`. This and the two below stay apart as `add_run` and `put_run` do (d);
+// message, place and comparison stay apart, since a record has them so (d).
 pub fn add_layout(d: &[u8], from: usize, c: Spans, s: Settings, a: Measure) -> Measure
-    requires spans_within { SpansWithin from (length d.now) (At c) }
+    requires spans_within { SpansWithin from (length d.now) (Some c) }
     requires small { (Small a) × (a.len + length (laid_text s d.now from c) < 2 ^ 57) }
     ensures { result ≡ grown a (laid_text s d.now from c) }
 {
     let mut b = a;
-    let mut k = 0;
-    while k < RUNS {
+    for k in 0..RUNS {
         b = add_run(d, s, run_at(from, c, k), b);
-        k += 1;
     }
     b
 }
 
 // The bytes of a layout. It is measured for them: few messages are laid out, and each is counted once.
 pub fn layout_len(d: &[u8], from: usize, c: Spans, s: Settings) -> usize
-    requires spans_within { SpansWithin from (length d.now) (At c) }
+    requires spans_within { SpansWithin from (length d.now) (Some c) }
     requires c_len_bound { length (laid_text s d.now from c) < 2 ^ 57 }
     ensures { result ≡ length (laid_text s d.now from c) }
 {
-    let rule: Rule = s.rule;
-    let m = add_layout(d, from, c, s, none(rule));
-    m.len
+    add_layout(d, from, c, s, none(s.rule)).len
 }
 
 // Writes a layout, and returns the place after it.
 pub fn put_layout(d: &[u8], from: usize, c: Spans, s: Settings, out: &mut [u8], at: usize) -> usize
-    requires spans_within { SpansWithin from (length d.now) (At c) }
+    requires spans_within { SpansWithin from (length d.now) (Some c) }
     requires c_in_bounds { (at + length (laid_text s d.now from c) ≤ length out.old) × (length (laid_text s d.now from c) < 2 ^ 57) }
     ensures { Puts out.old out.new at (laid_text s d.now from c) result }
 {
     let mut b = at;
-    let mut k = 0;
-    while k < RUNS {
+    for k in 0..RUNS {
         b = put_run(d, s, run_at(from, c, k), out, b);
-        k += 1;
     }
     b
 }

@@ -1,15 +1,16 @@
 -- Scaffolding, for proofs alone: what a specifier shows before it is formatted, as the code goes about it. Assumes nothing.
-use Rattle.std.specs.Prelude.{ℕ, Bool, true, false, List}
+use Rattle.std.specs.Prelude.{ℕ, Bool, true, false, Option, None, List}
 use Rattle.buffer.specs.Table.{Maybe, none, some}
 use Rattle.words.specs.declared.LogMetadata.{LogMetadata}
 use Rattle.words.specs.declared.LogMetadata.TheVariants.{CrateName, FileName, FilePath, LineNumber, Log, LogLevel, ModulePath, Timestamp, HeadSerial}
 use Rattle.colour.specs.declared.Settings.{Settings}
 use Rattle.colour.specs.Shown.{joined}
 use Rattle.record.specs.Records.{Record}
+use Rattle.comparisons.specs.declared.Spans.{Spans}
 use Rattle.comparisons.specs.Comparisons.{Comparison, layout}
 use Rattle.fields.specs.Texts.{wording}
 use Rattle.fields.specs.Lines.{comparison_of}
-use Rattle.leaves.specs.Places.{has_comparison}
+use Rattle.leaves.specs.declared.Shown.{Shown}
 
 -- whether there is a comparison
 unfoldable pub is_there : Maybe Comparison → Bool
@@ -33,14 +34,14 @@ field_text s r ModulePath = wording r ModulePath
 field_text s r Timestamp = wording r Timestamp
 field_text s r HeadSerial = wording r HeadSerial
 
--- whether the specifier m shows what the numbers tell a comparison
-unfoldable pub is_laid : List ℕ → LogMetadata → Bool
-is_laid n CrateName = false
-is_laid n (FileName k) = false
-is_laid n FilePath = false
-is_laid n LineNumber = false
-is_laid n Log = has_comparison n
-is_laid n LogLevel = false
-is_laid n ModulePath = false
-is_laid n Timestamp = false
-is_laid n HeadSerial = false
+-- the places of the comparison that the specifier m shows
+unfoldable pub laid : Shown → LogMetadata → Option Spans
+laid x CrateName = None
+laid x (FileName k) = None
+laid x FilePath = None
+laid x LineNumber = None
+laid x Log = x.spans
+laid x LogLevel = None
+laid x ModulePath = None
+laid x Timestamp = None
+laid x HeadSerial = None

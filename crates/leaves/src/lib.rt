@@ -5,162 +5,86 @@ ghost use Rattle.std.specs.Prelude.{◌≡◌, ◌+◌, ◌<◌, ◌≤◌, ◌^
 ghost use Rattle.buffer.specs.Bytes.{part};
 ghost use Rattle.buffer.specs.Buffer.{Puts};
 ghost use Rattle.measure.specs.Measures.{grown, Small};
-ghost use Rattle.segments.specs.Pool.{cell};
-ghost use Rattle.record.specs.Placed.{PlacesWithin};
-ghost use Rattle.fields.specs.Texts.{wording};
-ghost use Rattle.fields.specs.Wordings.{Tells};
-ghost use Rattle.leaves.specs.Places.{row_length, places_of, spans_of, record_by, Lent};
-ghost use Rattle.leaves.specs.Fields.{field_text, is_laid};
+ghost use Rattle.leaves.specs.Places.{record_by, Lent};
+ghost use Rattle.leaves.specs.Fields.{field_text, laid};
 
-use buffer::numbers::least;
-use buffer::put;
 use colour::Settings;
-use comparisons::{Spans, Value};
-use fields::{Wording, wording_of};
+use comparisons::Spans;
+use fields::wording_of;
 use layouts::{add_layout, layout_len, put_layout};
 use measure::Measure;
-use measure::growing::add;
-use pool::cell_at;
+use measure::sink::{Count, Place, Sink};
 use record::Places;
-use wording::{add_wording, put_wording, wording_len};
+use wording::write_wording;
 use words::LogMetadata;
 
-// The text at i, which is a part of the template, on top of a measure. Its places are cut to the template, so that any will do.
-pub fn add_text(cells: &[usize], t: &[u8], i: usize, a: Measure) -> Measure
-    requires in_bounds { (512 ≤ length cells.now) × (i < 64) }
-    requires small { (Small a) × (a.len + length (part (cell cells.now i 1) (cell cells.now i 2) t.now) < 2 ^ 58) }
-    ensures { result ≡ grown a (part (cell cells.now i 1) (cell cells.now i 2) t.now) }
-{
-    let to = least(cell_at(cells, i, 2), t.len());
-    let from = least(cell_at(cells, i, 1), to);
-    add(a, &t[from..to])
+// What a line shows of: the places of a record's texts, and those of the comparison that its message is.
+#[derive(Clone, Copy)]
+pub struct Shown {
+    pub places: Places,
+    pub spans: Option<Spans>,
 }
 
-pub fn text_len(cells: &[usize], t: &[u8], i: usize) -> usize
-    requires { (512 ≤ length cells.now) × (i < 64) }
-    ensures { result ≡ length (part (cell cells.now i 1) (cell cells.now i 2) t.now) }
+// A text, which is a part of the template. Its places are cut to the template, so that any will do.
+pub fn write_text<S: Sink>(t: &[u8], from: usize, to: usize, sink: S, out: &mut [u8]) -> S
+    requires fits { S.fits sink out.old (part from to t.now) }
+    ensures value { result ≡ S.after sink (part from to t.now) }
+    ensures buffer { out.new ≡ S.left sink out.old (part from to t.now) }
 {
-    let to = least(cell_at(cells, i, 2), t.len());
-    let from = least(cell_at(cells, i, 1), to);
-    to - from
+    let to = to.min(t.len());
+    let from = from.min(to);
+    sink.take(&t[from..to], out)
 }
 
-pub fn put_text(cells: &[usize], t: &[u8], i: usize, out: &mut [u8], at: usize) -> usize
-    requires in_bounds { (512 ≤ length cells.now) × (i < 64) }
-    requires t_in_bounds { at + length (part (cell cells.now i 1) (cell cells.now i 2) t.now) ≤ length out.old }
-    ensures { Puts out.old out.new at (part (cell cells.now i 1) (cell cells.now i 2) t.now) result }
+// What the specifier m shows, on top of a measure. A layout is measured, counted and written by functions of its own, since what it inserts is told
+// by a measure of each run: so a field is too, and one for all sinks would need a trait for those three (d). Bytes and what is shown of them stay two
+// parameters, as in checks (d).
+pub fn add_field(d: &[u8], shown: &Shown, s: Settings, m: LogMetadata, a: Measure) -> Measure
+    requires lent { Lent d.now shown.now }
+    requires small { (Small a) × (a.len + length (field_text s (record_by shown.now d.now) m) < 2 ^ 57) }
+    ensures { result ≡ grown a (field_text s (record_by shown.now d.now) m) }
 {
-    let to = least(cell_at(cells, i, 2), t.len());
-    let from = least(cell_at(cells, i, 1), to);
-    put(out, at, &t[from..to])
-}
-
-// What the specifier m shows, on top of a measure.
-pub fn add_field(d: &[u8], numbers: &[usize], s: Settings, m: LogMetadata, a: Measure) -> Measure
-    requires lent { Lent d.now numbers.now }
-    requires small { (Small a) × (a.len + length (field_text s (record_by numbers.now d.now) m) < 2 ^ 57) }
-    ensures { result ≡ grown a (field_text s (record_by numbers.now d.now) m) }
-{
-    let w = wording_at(d, numbers, m);
-    if is_laid(numbers, m) {
-        return add_layout(d, numbers[10], spans_at(numbers), s, a);
+    match laid(shown, m) {
+        Some(c) => add_layout(d, shown.places.message_from, c, s, a),
+        None => write_wording(d, wording_of(d, shown.places, m), a, &mut []),
     }
-    add_wording(d, w, a)
 }
 
-pub fn field_len(d: &[u8], numbers: &[usize], s: Settings, m: LogMetadata) -> usize
-    requires lent { Lent d.now numbers.now }
-    requires m_len_bound { length (field_text s (record_by numbers.now d.now) m) < 2 ^ 57 }
-    ensures { result ≡ length (field_text s (record_by numbers.now d.now) m) }
+pub fn field_len(d: &[u8], shown: &Shown, s: Settings, m: LogMetadata) -> usize
+    requires lent { Lent d.now shown.now }
+    requires m_len_bound { length (field_text s (record_by shown.now d.now) m) < 2 ^ 57 }
+    ensures { result ≡ length (field_text s (record_by shown.now d.now) m) }
 {
-    let w = wording_at(d, numbers, m);
-    if is_laid(numbers, m) {
-        return layout_len(d, numbers[10], spans_at(numbers), s);
+    match laid(shown, m) {
+        Some(c) => layout_len(d, shown.places.message_from, c, s),
+        None => write_wording(d, wording_of(d, shown.places, m), Count(0), &mut []).0,
     }
-    wording_len(d, w)
 }
 
 pub fn put_field(
     d: &[u8],
-    numbers: &[usize],
+    shown: &Shown,
     s: Settings,
     m: LogMetadata,
     out: &mut [u8],
     at: usize,
 ) -> usize
-    requires lent { Lent d.now numbers.now }
-    requires m_in_bounds { at + length (field_text s (record_by numbers.now d.now) m) ≤ length out.old }
-    ensures { Puts out.old out.new at (field_text s (record_by numbers.now d.now) m) result }
+    requires lent { Lent d.now shown.now }
+    requires m_in_bounds { at + length (field_text s (record_by shown.now d.now) m) ≤ length out.old }
+    ensures { Puts out.old out.new at (field_text s (record_by shown.now d.now) m) result }
 {
-    let w = wording_at(d, numbers, m);
-    if is_laid(numbers, m) {
-        return put_layout(d, numbers[10], spans_at(numbers), s, out, at);
-    }
-    put_wording(d, w, out, at)
-}
-
-// Whether m shows a comparison, which is laid out.
-fn is_laid(numbers: &[usize], m: LogMetadata) -> bool
-    requires { row_length ≤ length numbers.now }
-    ensures { result ≡ is_laid numbers.now m }
-{
-    let LogMetadata::Log = m else {
-        return false;
-    };
-    numbers[15] != 0
-}
-
-fn wording_at(d: &[u8], numbers: &[usize], m: LogMetadata) -> Wording
-    requires { (row_length ≤ length numbers.now) × PlacesWithin (length d.now) (places_of numbers.now) }
-    ensures { Tells result d.now (wording (record_by numbers.now d.now) m) }
-{
-    let p = places_at(numbers);
-    wording_of(d, p, m)
-}
-
-// The record's places as the lent row has them.
-fn places_at(numbers: &[usize]) -> Places
-    requires { row_length ≤ length numbers.now }
-    ensures { result ≡ places_of numbers.now }
-{
-    Places {
-        source: numbers[0],
-        level: numbers[1],
-        mask: numbers[2],
-        line: numbers[3],
-        file_from: numbers[4],
-        file_to: numbers[5],
-        module_from: numbers[6],
-        module_to: numbers[7],
-        timestamp_from: numbers[8],
-        timestamp_to: numbers[9],
-        message_from: numbers[10],
-        message_to: numbers[11],
-        serial_from: numbers[12],
-        serial_to: numbers[13],
+    match laid(shown, m) {
+        Some(c) => put_layout(d, shown.places.message_from, c, s, out, at),
+        None => write_wording(d, wording_of(d, shown.places, m), Place(at), out).0,
     }
 }
 
-// The comparison's places, which stand behind them.
-fn spans_at(numbers: &[usize]) -> Spans
-    requires { row_length ≤ length numbers.now }
-    ensures { result ≡ spans_of numbers.now }
+// The places of the comparison that m shows, which is laid out.
+fn laid(shown: &Shown, m: LogMetadata) -> Option<Spans>
+    ensures { result ≡ laid shown.now m }
 {
-    let left = Value {
-        from: numbers[15],
-        begun: numbers[16],
-        rest: numbers[17],
-        to: numbers[18],
-    };
-    let right = Value {
-        from: numbers[19],
-        begun: numbers[20],
-        rest: numbers[21],
-        to: numbers[22],
-    };
-    Spans {
-        head: numbers[14],
-        left,
-        right,
+    match m {
+        LogMetadata::Log => shown.spans,
+        _ => None,
     }
 }

@@ -1,18 +1,18 @@
 -- Where the quick look leaves no doubt, nothing is marked. Assumes nothing.
-use Prim.Native.Nat.{ℕ, zero, suc, min, max, ◌+◌, ◌*◌, ◌-◌, ◌%◌, ◌≤◌, ◌<◌}
+use Prim.Native.Nat.{ℕ, zero, suc, min, max, ◌+◌, ◌-◌, ◌≤◌, ◌<◌}
 use mathlib.Core.Path.{◌≡◌, refl, ap, sym, subst, ◌∙◌}
 use mathlib.Core.Bool.{Bool, true, false, ◌&&◌}
-use mathlib.Core.List.{List, [], ◌∷◌}
+use mathlib.Core.List.{List, [], ◌∷◌, ◌++◌}
 use native.Mathlib.Decide.{dec_lt}
 use native.Mathlib.Omega.{arith}
 use lib.Dec.{leb, eqb}
 use lib.ListN.{length, get_or, get_or-eq_default}
 use borrow.Author.Tests.{leb-true, eq-eqb, ne_eqb}
+use Rattle.std.specs.Prelude.{bit_and, bit_or}
 use Rattle.utf8.specs.Windows.{less, top_of}
 use Rattle.utf8.proofs.Greatest.{top_any}
 use Rattle.points.specs.Decoding.{point}
 use Rattle.points.specs.Ranges.{ends}
-use Rattle.points.specs.Searching.{odd}
 use Rattle.points.proofs.Halving.{up_to_next}
 use Rattle.points.proofs.Lookup.{among_odd}
 use Rattle.points.proofs.Decoded.{point_three}
@@ -104,11 +104,48 @@ undoubted t e = as_it_is 0 t e
 
 -- ---- the look itself
 
--- what the code adds up, part by part
-pub doubt_told : (a b l x y g z w h m r : ℕ) → l ≡ less 0xBF a → x ≡ less a 0xE2 → y ≡ less 0xE2 a → g ≡ max x y → z ≡ less b 0x94 → w ≡ less 0xAF b
-    → h ≡ max z w → m ≡ max g h → r ≡ min l m → r ≡ doubt_of a b
+-- of numbers that are 0 or 1 the bits say the lesser and the greater
+or_is : (x y : ℕ) → x ≤ 1 → y ≤ 1 → bit_or x y ≡ max x y
+or_is zero zero f g = refl
+or_is zero (suc zero) f g = refl
+or_is (suc zero) zero f g = refl
+or_is (suc zero) (suc zero) f g = refl
+or_is (suc (suc x)) y f g = absurd (let z : ⊥ = omega (arith, f) in z)
+or_is zero (suc (suc y)) f g = absurd (let z : ⊥ = omega (arith, g) in z)
+or_is (suc zero) (suc (suc y)) f g = absurd (let z : ⊥ = omega (arith, g) in z)
+
+and_is : (x y : ℕ) → x ≤ 1 → y ≤ 1 → bit_and x y ≡ min x y
+and_is zero zero f g = refl
+and_is zero (suc zero) f g = refl
+and_is (suc zero) zero f g = refl
+and_is (suc zero) (suc zero) f g = refl
+and_is (suc (suc x)) y f g = absurd (let z : ⊥ = omega (arith, f) in z)
+and_is zero (suc (suc y)) f g = absurd (let z : ⊥ = omega (arith, g) in z)
+and_is (suc zero) (suc (suc y)) f g = absurd (let z : ⊥ = omega (arith, g) in z)
+
+small : (x y : ℕ) → less x y ≤ 1
+small x y = omega arith
+
+-- what the code puts together, part by part
+pub doubt_told : (a b l x y z w : ℕ) → l ≡ less 0xBF a → x ≡ less a 0xE2 → y ≡ less 0xE2 a → z ≡ less b 0x94 → w ≡ less 0xAF b
+    → bit_and l (bit_or (bit_or (bit_or x y) z) w) ≡ doubt_of a b
 unfolding doubt_of
-doubt_told a b l x y g z w h m r el ex ey eg ez ew eh em er = cc
+doubt_told a b l x y z w el ex ey ez ew =
+    let sl = small 0xBF a in
+    let sx = small a 0xE2 in
+    let sy = small 0xE2 a in
+    let sz = small b 0x94 in
+    let sw = small 0xAF b in
+    let e = or_is x y (omega (arith, ex, sx)) (omega (arith, ey, sy)) in
+    let f = or_is (max x y) z (omega (arith, ex, ey, sx, sy)) (omega (arith, ez, sz)) in
+    let g = or_is (max (max x y) z) w (omega (arith, ex, ey, ez, sx, sy, sz)) (omega (arith, ew, sw)) in
+    let h : max (max (max x y) z) w ≡ max (max x y) (max z w) = omega arith in
+    ap (λ (n : ℕ). bit_and l (bit_or (bit_or n z) w)) e
+    ∙ ap (λ (n : ℕ). bit_and l (bit_or n w)) f
+    ∙ ap (bit_and l) g
+    ∙ and_is l (max (max (max x y) z) w) (omega (arith, el, sl)) (omega (arith, ex, ey, ez, ew, sx, sy, sz, sw))
+    ∙ ap (min l) h
+    ∙ cc
 
 -- each byte counts
 pub doubt_any : (t : List ℕ) (k : ℕ) → k < length t → doubt_of (get_or t k 0) (get_or t (k + 1) 0) ≤ doubt_in t
@@ -131,18 +168,17 @@ doubt_none (a ∷ t) f =
         let z : suc k + 1 ≡ suc (k + 1) = omega arith in
         sym (ap (λ (j : ℕ). doubt_of (get_or t k 0) (get_or (a ∷ t) j 0)) z) ∙ e
 
-pub looked_none : (t : List ℕ) (i : ℕ) → Looked t i (i + 0) 0
+pub looked_none : (t : List ℕ) (i : ℕ) → Looked t i i 0
 looked_none t i = ((λ e k g h. absurd (let z : ⊥ = omega (arith, g, h) in z)), λ h. absurd (let z : ⊥ = omega (arith, h) in z))
 
 -- one byte more
-pub looked_more : (t : List ℕ) (i k w r x : ℕ) → i + k < length t → Looked t i (i + k) w → r ≡ doubt_of (get_or t (i + k) 0) (get_or t (i + k + 1) 0) → x ≡ max w r
-    → Looked t i (i + (k + 1)) x
+pub looked_more : (t : List ℕ) (i k w r x : ℕ) → k < length t → Looked t i k w → r ≡ doubt_of (get_or t k 0) (get_or t (k + 1) 0) → x ≡ max w r → Looked t i (k + 1) x
 looked_more t i k w r x h f e q = (
-  (λ z j g l. elim (dec_lt j (i + k)) [
+  (λ z j g l. elim (dec_lt j k) [
     | yes b ↦ f.0 (omega (arith, z, q)) j g b
-    | no nb ↦ let y : j ≡ i + k = omega arith in ap (λ (m : ℕ). doubt_of (get_or t m 0) (get_or t (m + 1) 0)) y ∙ omega (arith, z, q, e)
+    | no nb ↦ let y : j ≡ k = omega arith in ap (λ (m : ℕ). doubt_of (get_or t m 0) (get_or t (m + 1) 0)) y ∙ omega (arith, z, q, e)
   ]),
-  λ z. elim (dec_lt 0 w) [ yes b ↦ f.1 b | no nb ↦ omega (arith, z, q, e, doubt_any t (i + k) h) ],
+  λ z. elim (dec_lt 0 w) [ yes b ↦ f.1 b | no nb ↦ omega (arith, z, q, e, doubt_any t k h) ],
 )
 
 -- what two blocks say that meet or overlap
@@ -171,6 +207,14 @@ pub doubt_empty : (t : List ℕ) → length t ≡ 0 → doubt_in t ≡ 0
 doubt_empty t e = doubt_none t λ k g h. absurd (let z : ⊥ = omega (arith, h, e) in z)
 
 -- ---- the answer
+
+-- the last byte of a text that is taken apart there
+last_of : (x : List ℕ) (b : ℕ) → get_or (x ++ (b ∷ [])) (length x) 0 ≡ b
+last_of [] b = refl
+last_of (a ∷ x) b = last_of x b
+
+pub last_doubt : (t x : List ℕ) (b r : ℕ) → t ≡ x ++ (b ∷ []) → r ≡ doubt_of b 0 → r ≡ doubt_of (get_or t (length x) 0) 0
+last_doubt t x b r e q = q ∙ ap (λ (a : ℕ). doubt_of a 0) (sym (last_of x b) ∙ ap (λ (y : List ℕ). get_or y (length x) 0) (sym e))
 
 pub no_answer : (t : List ℕ) → 0 < doubt_in t → false ≡ eqb (doubt_in t) 0
 no_answer t h = sym (ne_eqb (doubt_in t) 0 λ e. omega (arith, h, e))

@@ -10,7 +10,7 @@ use lib.ListN.{length, get_or}
 use Rattle.utf8.specs.Utf8.{Range, ◌to◌, within, trail, Awaited, awaited, broken, begun, forms, step, run, complete, valid}
 use Rattle.utf8.specs.Windows.{Lives, Opens, two, e0, three, ed, three_more, f0, four, f4}
 use Rattle.utf8.proofs.Ranges.{within_true}
-use Rattle.utf8.proofs.Running.{step_broken, run_broken}
+use Rattle.utf8.proofs.Running.{run_broken}
 use Rattle.utf8.proofs.Following.{First, alone, opens, none_below, none_above, first_byte, opens_bounds, step_lives, step_in}
 use Rattle.runs.specs.Runs.{letter, run_end, letters_end}
 use Rattle.points.specs.Decoding.{size_of}

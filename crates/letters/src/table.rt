@@ -1,12 +1,12 @@
-// The table of letters. A constant is built on the stack where it is named, so it is named once, and lent from there.
+// The table of letters, and a template with its letters marked. The table is a `static`, since a `const` would be built on the stack wherever it is named.
 ghost use Rattle.std.specs.Prelude.{◌≡◌, ◌≤◌, length};
 ghost use Rattle.buffer.specs.Buffer.{put_at};
 ghost use Rattle.letters.specs.Marked.{marked};
 
-use super::marking::mark_by;
+use super::marking::{left_in, letter_in, seen_as};
 
 // Where each range of letters begins, and the code point after it, by turns. `oracle/letters` makes it.
-const ENDS: [u32; 1522] = [
+pub(crate) static ENDS: [u32; 1522] = [
     0x41, 0x5B, 0x61, 0x7B, 0xAA, 0xAB, 0xB5, 0xB6, 0xBA, 0xBB, 0xC0, 0xD7, 0xD8, 0xF7, 0xF8,
     0x2C2, 0x2C6, 0x2D2, 0x2E0, 0x2E5, 0x2EC, 0x2ED, 0x2EE, 0x2EF, 0x345, 0x346, 0x363, 0x375,
     0x376, 0x378, 0x37A, 0x37E, 0x37F, 0x380, 0x386, 0x387, 0x388, 0x38B, 0x38C, 0x38D, 0x38E,
@@ -145,11 +145,17 @@ const ENDS: [u32; 1522] = [
     0x2EE5E, 0x2F800, 0x2FA1E, 0x30000, 0x3134B, 0x31350, 0x3347A,
 ];
 
-// Writes t to the front of `out`, each byte of a letter beyond ASCII as the mark.
+// Writes t to the front of `out`, each byte of a letter beyond ASCII as the mark. It goes by index, and over no iterator (d), since a character is told by its
+// first byte and those behind it.
 pub fn mark_letters(t: &[u8], out: &mut [u8])
     requires { length t.now ≤ length out.old }
     ensures { out.new ≡ put_at out.old 0 (marked t.now) }
 {
-    let ends = ENDS;
-    mark_by(&ends, t, out)
+    let mut left = 0;
+    let mut letter = false;
+    for i in 0..t.len() {
+        letter = letter_in(t, i, left, letter);
+        left = left_in(t, i, left) - 1;
+        out[i] = seen_as(letter, t[i]);
+    }
 }

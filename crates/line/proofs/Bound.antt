@@ -1,5 +1,6 @@
 -- How long a line is at most: each level of groups makes a text at most sixteen times as long, so that every length can be counted. Assumes nothing.
 use Prim.Native.Nat.{ℕ, zero, suc, ◌+◌, ◌*◌, ◌-◌, ◌≤◌, ◌<◌, ◌^◌}
+use Rattle.std.specs.Prelude.{Option, Some, None}
 use mathlib.Core.Path.{◌≡◌, refl, sym, ap, ◌∙◌}
 use mathlib.Core.Bool.{Bool, true, false}
 use mathlib.Core.List.{List}
@@ -10,10 +11,10 @@ use Rattle.buffer.specs.Bytes.{part}
 use Rattle.words.specs.declared.LogMetadata.{LogMetadata}
 use Rattle.words.specs.declared.LogMetadata.TheVariants.{CrateName, FileName, FilePath, LineNumber, Log, LogLevel, ModulePath, Timestamp, HeadSerial}
 use Rattle.words.specs.declared.LogFormat.{LogFormat}
-use Rattle.words.specs.declared.Width.{Width}
 use Rattle.colour.specs.declared.Settings.{Settings}
 use Rattle.colour.specs.Shown.{text_of, joined}
 use Rattle.colour.proofs.Lengths.{length_formatted_coarse}
+use Rattle.segments.specs.declared.Cell.{Cell}
 use Rattle.segments.specs.Segments.{LogSegment, LogSegments, text, specifier, group, none, more}
 use Rattle.segments.specs.Sizes.{size, sizes, Narrow, Low, Lows}
 use Rattle.segments.specs.Pool.{segment_at, chain_at}
@@ -23,7 +24,8 @@ use Rattle.record.specs.Placed.{laid_by}
 use Rattle.fields.specs.Texts.{wording}
 use Rattle.formats.specs.Formats.{default_width, width_for, format_for, specifier_format, group_format}
 use Rattle.fields.specs.Lines.{segment_shown, segments_shown}
-use Rattle.leaves.specs.Places.{places_of, record_by}
+use Rattle.leaves.specs.declared.Shown.{Shown}
+use Rattle.leaves.specs.Places.{record_by}
 use Rattle.rows.specs.Texts.{segment_text, segments_text, raw_text, bare_message, is_bare, format_of}
 use Rattle.rows.specs.Rows.{Countable, Writable}
 use Rattle.rows.proofs.Segments.{field_worded, segment_bare, segment_formatted}
@@ -39,9 +41,9 @@ scale_least : (d : ℕ) → 2 ^ 18 ≤ scale d
 scale_least zero = omega arith
 scale_least (suc d) = omega (arith, scale_least d)
 
-width_narrow : (default : ℕ) (w : Width) → default ≤ 512 → Narrow w → width_for default w ≤ 512
-width_narrow default Width.Default h g = h
-width_narrow default (Width.Given n) h g = g
+width_narrow : (default : ℕ) (w : Option ℕ) → default ≤ 512 → Narrow w → width_for default w ≤ 512
+width_narrow default None h g = h
+width_narrow default (Some n) h g = g
 
 default_narrow : (m : LogMetadata) → default_width m ≤ 512
 default_narrow CrateName = omega arith
@@ -122,19 +124,19 @@ module _ (s : Settings) (t : List ℕ) (r : Record) (short : length t ≤ 1024) 
   segments_counted xs h g = omega (arith, segments_small 8 xs h, mul-le-mul_right (scale 8) g)
 
 -- so every text of a line's segments can be counted, and so can the line
-module _ (s : Settings) (cells t d numbers : List ℕ) (n : ℕ) (w : Writable cells t d numbers n) where
-  fields_short : (m : LogMetadata) → length (wording (record_by numbers d) m) ≤ 8200
+module _ (s : Settings) (cells : List Cell) (t d : List ℕ) (x : Shown) (n : ℕ) (w : Writable cells t d x n) where
+  fields_short : (m : LogMetadata) → length (wording (record_by x d) m) ≤ 8200
   unfolding record_by
-  fields_short m = wording_short (laid_by (places_of numbers) d) w.texts m
+  fields_short m = wording_short (laid_by x.places d) w.texts m
 
-  shown_short : (m : LogMetadata) → length (field_text s (record_by numbers d) m) < 2 ^ 18
+  shown_short : (m : LogMetadata) → length (field_text s (record_by x d) m) < 2 ^ 18
   unfolding record_by
-  shown_short m = field_short s (laid_by (places_of numbers) d) w.texts m
+  shown_short m = field_short s (laid_by x.places d) w.texts m
 
-  pub countable : Countable s t (record_by numbers d) cells n
+  pub countable : Countable s t (record_by x d) cells n
   countable = record {
-    size = λ i h. segment_counted s t (record_by numbers d) w.template fields_short shown_short (segment_at cells i) (w.sound.low i h) (w.sound.few i h);
+    size = λ i h. segment_counted s t (record_by x d) w.template fields_short shown_short (segment_at cells i) (w.sound.low i h) (w.sound.few i h);
   }
 
-  pub line_counted : length (segments_text s t (record_by numbers d) (chain_at cells n)) < 2 ^ 57
-  line_counted = omega (arith, segments_counted s t (record_by numbers d) w.template fields_short shown_short (chain_at cells n) w.low w.few)
+  pub line_counted : length (segments_text s t (record_by x d) (chain_at cells n)) < 2 ^ 57
+  line_counted = omega (arith, segments_counted s t (record_by x d) w.template fields_short shown_short (chain_at cells n) w.low w.few)

@@ -1,44 +1,39 @@
 -- Pieces of a group, one law for each case. Assumes nothing.
-use Prim.Native.Nat.{ℕ, zero, suc, ◌+◌, ◌-◌, ◌*◌, ◌≤◌, ◌<◌}
+use Prim.Native.Nat.{ℕ, ◌+◌, ◌-◌, ◌≤◌}
 use mathlib.Core.Path.{◌≡◌, refl, sym, ap, subst, ◌∙◌}
-use mathlib.Core.Bool.{Bool, true, false, ◌||◌, ◌&&◌}
+use mathlib.Core.Bool.{Bool, true, false, ◌||◌}
 use mathlib.Core.List.{List}
 use native.Mathlib.Omega.{arith}
-use lib.Dec.{ltb}
-use lib.ListN.{length, get_or, take}
+use lib.ListN.{length, take}
 use borrow.Author.Tests.{le-ltb}
 use Rattle.refusals.specs.declared.Refusal.{Refusal}
 use Rattle.words.specs.declared.Parameter.{Parameter}
 use Rattle.runs.specs.Runs.{stands, run_end}
 use Rattle.words.specs.Trying.{Tried, fit, misfit, refused, ◌or_else◌, ◌then◌, repeated}
 use Rattle.words.specs.Words.{parameter_at}
-use Rattle.words.proofs.Attempts.{or_else_fit, or_else_misfit, or_else_refused, then_fit, then_misfit, then_refused}
-use Rattle.segments.specs.Segments.{LogSegment, LogSegments, ◌and_then◌, is_specifier, any_specifier}
+use Rattle.segments.specs.declared.Cell.{Cell}
+use Rattle.segments.specs.Segments.{LogSegments, ◌and_then◌, is_specifier, any_specifier}
 use Rattle.segments.specs.Segments as segments
-use Rattle.segments.specs.Sizes.{size, sizes, Low, Lows, Narrow}
-use Rattle.segments.specs.Pool.{segment_at, chain_at, back, Sound}
+use Rattle.segments.specs.Sizes.{sizes, Lows, Narrow}
+use Rattle.segments.specs.Pool.{segment_at, chain_at}
 use Rattle.segments.proofs.Fronts.{chain_front}
 use Rattle.segments.proofs.Chains.{chain_none, chain_step}
 use Rattle.segments.proofs.Growing.{sound_front, tidy_kept}
 use Rattle.segments.proofs.Joining.{sizes_and_then, any_and_then, lows_and_then}
 use Rattle.parts.specs.declared.Parts.{Parts}
 use Rattle.parts.specs.Parts.{no_parts, with_parameter}
-use Rattle.building.specs.declared.PartsRead.{PartsRead}
-use Rattle.building.specs.declared.Reading.{Reading}
 use Rattle.building.specs.declared.Pieces.{Pieces}
-use Rattle.building.specs.declared.PieceRead.{PieceRead}
 use Rattle.building.specs.Reading.{Made, Reader, Group, plain_byte, text_to, text_at, with_member, with_asked, percent_at, piece_at, no_group, brace_at, closed, group_at}
-use Rattle.building.specs.Told.{tell_parts, last_made, tell, tell_pieces, tell_piece, plain_piece, joined_by, Room, PartsWithin, Fitted, PiecesReady, PiecesKeep, PieceWithin}
-use Rattle.building.proofs.Answers.{parts_fit, parts_misfit, parts_refused, reading_fit, reading_misfit, reading_refused, piece_fit, piece_misfit, piece_refused}
+use Rattle.building.specs.Told.{last_made, tell_pieces, plain_piece, joined_by, Room, Fitted, PiecesReady, PiecesKeep}
 use Rattle.building.proofs.Making.{text_plain}
 
 -- ---- pools that agree on the segments made
 
-pub pieces_same : (b a : List ℕ) (g : Pieces) → g.last ≤ g.made → take (8 * g.made) a ≡ take (8 * g.made) b → tell_pieces g a ≡ tell_pieces g b
+pub pieces_same : (b a : List Cell) (g : Pieces) → g.last ≤ g.made → take g.made a ≡ take g.made b → tell_pieces g a ≡ tell_pieces g b
 unfolding tell_pieces
 pieces_same b a g h f = ap (λ (s : LogSegments). record { members = s; parts = g.parts; made = g.made }) (chain_front a b g.made f g.last h)
 
-pub pieces_after : (n d : ℕ) (b a : List ℕ) (g : Pieces) → PiecesKeep n d b g → take (8 * g.made) a ≡ take (8 * g.made) b → PiecesKeep n d a g
+pub pieces_after : (n d : ℕ) (b a : List Cell) (g : Pieces) → PiecesKeep n d b g → take g.made a ≡ take g.made b → PiecesKeep n d a g
 pieces_after n d b a g h f =
     let s : chain_at b g.last ≡ chain_at a g.last = sym (chain_front a b g.made f g.last h.ready.last) in
     record {
@@ -51,14 +46,14 @@ pieces_after n d b a g h f =
       tidy = tidy_kept b a n g.made f (let z = h.counted in omega arith) h.tidy;
     }
 
-pub ready_after : (b a : List ℕ) (g : Pieces) → PiecesReady b g → take (8 * g.made) a ≡ take (8 * g.made) b → PiecesReady a g
+pub ready_after : (b a : List Cell) (g : Pieces) → PiecesReady b g → take g.made a ≡ take g.made b → PiecesReady a g
 ready_after b a g h f =
     let s : chain_at b g.last ≡ chain_at a g.last = sym (chain_front a b g.made f g.last h.last) in
     record { narrow = h.narrow; last = h.last; direct = subst (λ (x : LogSegments). g.direct ≡ any_specifier x) s h.direct }
 
 -- ---- one member more
 
-module _ (lo to d : ℕ) (b a : List ℕ) (g : Pieces) (j k : ℕ) (u : g.last ≤ g.made) (f : take (8 * g.made) a ≡ take (8 * g.made) b)
+module _ (lo to d : ℕ) (b a : List Cell) (g : Pieces) (j k : ℕ) (u : g.last ≤ g.made) (f : take g.made a ≡ take g.made b)
     (h : Fitted lo to g.made g.last d a j k) where
   chain_grown : chain_at a k ≡ chain_at b g.last and_then segment_at a (k - 1)
   chain_grown =
@@ -104,34 +99,18 @@ asked (fit a j) s p q = ap (λ (z : Parts). fit (record { members = s.members; p
 asked misfit s p q = refl
 asked (refused r) s p q = refl
 
-module _ (t : List ℕ) (i e : ℕ) (g : Pieces) (cells : List ℕ) where
-  pub percent_none : stands 0x25 t i e ≡ false → tell_piece PieceRead.Misfit cells ≡ (percent_at t i e then λ a j. fit (with_asked (tell_pieces g cells) a) j)
-  unfolding percent_at tell_piece ◌then◌
-  percent_none b = sym (ap (λ (x : Tried Parameter). x then λ a j. fit (with_asked (tell_pieces g cells) a) j) (let z : percent_at t i e ≡ misfit = rw (b, percent_at) in z))
+-- where a `%` stands, the parameter o decides
+pub percent_is : (t : List ℕ) (i e : ℕ) (g : Pieces) (cells : List Cell) → stands 0x25 t i e ≡ true
+    → (o : Tried Parts) → o ≡ (parameter_at t (i + 1) e then λ a j. fit (with_parameter g.parts a) j)
+    → (percent_at t i e then λ a j. fit (with_asked (tell_pieces g cells) a) j)
+    ≡ ((o then λ q j. fit (record { members = chain_at cells g.last; parts = q; made = g.made }) j) or_else λ _. refused Refusal.Failure)
+unfolding percent_at tell_pieces
+percent_is t i e g cells b o w =
+    ap (λ (x : Tried Parameter). x then λ a j. fit (with_asked (tell_pieces g cells) a) j) (let z : percent_at t i e ≡ (parameter_at t (i + 1) e or_else λ _. refused Refusal.Failure) = rw (b, percent_at) in z)
+    ∙ asked (parameter_at t (i + 1) e) (tell_pieces g cells) g.parts refl
+    ∙ ap (λ (x : Tried Parts). (x then λ q j. fit (record { members = chain_at cells g.last; parts = q; made = g.made }) j) or_else λ _. refused Refusal.Failure) (sym w)
 
-  module _ (b : stands 0x25 t i e ≡ true) (o : PartsRead) (w : tell_parts o ≡ (parameter_at t (i + 1) e then λ a j. fit (with_parameter g.parts a) j)) where
-    percent_is : (percent_at t i e then λ a j. fit (with_asked (tell_pieces g cells) a) j)
-        ≡ ((tell_parts o then λ q j. fit (record { members = chain_at cells g.last; parts = q; made = g.made }) j) or_else λ _. refused Refusal.Failure)
-    unfolding percent_at tell_pieces
-    percent_is =
-        ap (λ (x : Tried Parameter). x then λ a j. fit (with_asked (tell_pieces g cells) a) j) (let z : percent_at t i e ≡ (parameter_at t (i + 1) e or_else λ _. refused Refusal.Failure) = rw (b, percent_at) in z)
-        ∙ asked (parameter_at t (i + 1) e) (tell_pieces g cells) g.parts refl
-        ∙ ap (λ (x : Tried Parts). (x then λ q j. fit (record { members = chain_at cells g.last; parts = q; made = g.made }) j) or_else λ _. refused Refusal.Failure) (sym w)
-
-    pub percent_fit : (q : Parts) (j : ℕ) → o ≡ PartsRead.Fit j q
-        → tell_piece (PieceRead.Fit j (record { parts = q; last = g.last; direct = g.direct; made = g.made })) cells ≡ (percent_at t i e then λ a j. fit (with_asked (tell_pieces g cells) a) j)
-    unfolding tell_piece tell_pieces tell_parts ◌then◌ ◌or_else◌
-    percent_fit q j r = sym (percent_is ∙ ap (λ (z : PartsRead). (tell_parts z then λ q j. fit (record { members = chain_at cells g.last; parts = q; made = g.made }) j) or_else λ _. refused Refusal.Failure) r)
-
-    pub percent_fails : o ≡ PartsRead.Misfit → tell_piece (PieceRead.Refused Refusal.Failure) cells ≡ (percent_at t i e then λ a j. fit (with_asked (tell_pieces g cells) a) j)
-    unfolding tell_piece tell_pieces tell_parts ◌then◌ ◌or_else◌
-    percent_fails r = sym (percent_is ∙ ap (λ (z : PartsRead). (tell_parts z then λ q j. fit (record { members = chain_at cells g.last; parts = q; made = g.made }) j) or_else λ _. refused Refusal.Failure) r)
-
-    pub percent_refused : (k : Refusal) → o ≡ PartsRead.Refused k → tell_piece (PieceRead.Refused k) cells ≡ (percent_at t i e then λ a j. fit (with_asked (tell_pieces g cells) a) j)
-    unfolding tell_piece tell_pieces tell_parts ◌then◌ ◌or_else◌
-    percent_refused k r = sym (percent_is ∙ ap (λ (z : PartsRead). (tell_parts z then λ q j. fit (record { members = chain_at cells g.last; parts = q; made = g.made }) j) or_else λ _. refused Refusal.Failure) r)
-
-pub asked_kept : (n d : ℕ) (cells : List ℕ) (g : Pieces) (q : Parts) → PiecesKeep n d cells g → Narrow q.format.width
+pub asked_kept : (n d : ℕ) (cells : List Cell) (g : Pieces) (q : Parts) → PiecesKeep n d cells g → Narrow q.format.width
     → PiecesKeep n d cells (record { parts = q; last = g.last; direct = g.direct; made = g.made })
 asked_kept n d cells g q h w = record {
   ready = record { narrow = w; last = h.ready.last; direct = h.ready.direct };
@@ -143,70 +122,16 @@ asked_kept n d cells g q h w = record {
   tidy = h.tidy;
 }
 
--- ---- a piece that is no brace
-
-module _ (t : List ℕ) (i e : ℕ) (g : Pieces) (b a : List ℕ) (o : Reading) (w : tell o a ≡ text_at t i e g.made) where
-  abbrev joined : Made → ℕ → Tried Group
-  joined x j = fit (with_member (tell_pieces g b) x) j
-
-  abbrev asking : Unit {0} → Tried Group
-  asking = λ _. percent_at t i e then λ a j. fit (with_asked (tell_pieces g b) a) j
-
-  pub plain_text : (j k : ℕ) → o ≡ Reading.Fit j k → (s : Pieces) → tell_pieces s a ≡ with_member (tell_pieces g b) (last_made a k)
-      → tell_piece (PieceRead.Fit j s) a ≡ plain_piece t e i (tell_pieces g b)
-  unfolding tell_piece plain_piece tell_pieces
-  plain_text j k q s r =
-      ap (λ (z : Group). fit z j) r
-      ∙ sym (or_else_fit (text_at t i e g.made then joined) asking (with_member (tell_pieces g b) (last_made a k)) j
-      (then_fit (text_at t i e g.made) joined (last_made a k) j (reading_fit o a (text_at t i e g.made) w j k q)))
-
-  pub plain_asked : o ≡ Reading.Misfit → (x : Tried Group) → x ≡ (percent_at t i e then λ y j. fit (with_asked (tell_pieces g a) y) j) → tell_pieces g a ≡ tell_pieces g b
-      → x ≡ plain_piece t e i (tell_pieces g b)
-  unfolding plain_piece tell_pieces
-  plain_asked q x r same =
-      r ∙ ap (λ (s : Group). percent_at t i e then λ y j. fit (with_asked s y) j) same
-      ∙ sym (or_else_misfit (text_at t i e g.made then joined) asking (then_misfit (text_at t i e g.made) joined (reading_misfit o a (text_at t i e g.made) w q)))
-
-  pub plain_refused : (r : Refusal) → o ≡ Reading.Refused r → tell_piece (PieceRead.Refused r) a ≡ plain_piece t e i (tell_pieces g b)
-  unfolding tell_piece plain_piece tell_pieces
-  plain_refused r q =
-      sym (or_else_refused (text_at t i e g.made then joined) asking r (then_refused (text_at t i e g.made) joined r (reading_refused o a (text_at t i e g.made) w r q)))
-
-  pub plain_direct : (j k : ℕ) → o ≡ Reading.Fit j k → false ≡ is_specifier (segment_at a (k - 1))
-  unfolding last_made
-  plain_direct j k q = sym (text_plain t i e g.made j (last_made a k) (reading_fit o a (text_at t i e g.made) w j k q))
-
 -- ---- a piece: a brace, else text or a parameter
 
-module _ (t : List ℕ) (brace : Reader) (i e : ℕ) (g : Pieces) (b a : List ℕ) (o : Reading) (w : tell o a ≡ brace i e g.made) where
-  abbrev member : Made → ℕ → Tried Group
-  member x j = fit (with_member (tell_pieces g b) x) j
+pub text_direct : (t : List ℕ) (i e n j k : ℕ) (a : List Cell) → fit (last_made a k) j ≡ text_at t i e n → false ≡ is_specifier (segment_at a (k - 1))
+unfolding last_made
+text_direct t i e n j k a w = sym (text_plain t i e n j (last_made a k) (sym w))
 
-  abbrev plain : Unit {0} → Tried Group
-  plain = λ _. plain_piece t e i (tell_pieces g b)
-
-  piece_is : piece_at t brace e i (tell_pieces g b) ≡ ((brace i e g.made then member) or_else plain)
-  unfolding piece_at plain_piece tell_pieces
-  piece_is = refl
-
-  pub piece_brace : (j k : ℕ) → o ≡ Reading.Fit j k → (s : Pieces) → tell_pieces s a ≡ with_member (tell_pieces g b) (last_made a k)
-      → tell_piece (PieceRead.Fit j s) a ≡ piece_at t brace e i (tell_pieces g b)
-  unfolding tell_piece
-  piece_brace j k q s r =
-      ap (λ (z : Group). fit z j) r
-      ∙ sym (piece_is ∙ or_else_fit (brace i e g.made then member) plain (with_member (tell_pieces g b) (last_made a k)) j
-      (then_fit (brace i e g.made) member (last_made a k) j (reading_fit o a (brace i e g.made) w j k q)))
-
-  pub piece_plain : o ≡ Reading.Misfit → (x : Tried Group) → x ≡ plain_piece t e i (tell_pieces g a) → tell_pieces g a ≡ tell_pieces g b
-      → x ≡ piece_at t brace e i (tell_pieces g b)
-  piece_plain q x r same =
-      r ∙ ap (plain_piece t e i) same
-      ∙ sym (piece_is ∙ or_else_misfit (brace i e g.made then member) plain (then_misfit (brace i e g.made) member (reading_misfit o a (brace i e g.made) w q)))
-
-  pub piece_refuses : (r : Refusal) → o ≡ Reading.Refused r → tell_piece (PieceRead.Refused r) a ≡ piece_at t brace e i (tell_pieces g b)
-  unfolding tell_piece
-  piece_refuses r q =
-      sym (piece_is ∙ or_else_refused (brace i e g.made then member) plain r (then_refused (brace i e g.made) member r (reading_refused o a (brace i e g.made) w r q)))
+pub piece_is : (t : List ℕ) (brace : Reader) (i e : ℕ) (g : Group)
+    → piece_at t brace e i g ≡ ((brace i e g.made then λ x j. fit (with_member g x) j) or_else λ _. plain_piece t e i g)
+unfolding piece_at plain_piece
+piece_is t brace i e g = refl
 
 -- nothing fits at the end
 stands_past : (x : ℕ) (t : List ℕ) (i e : ℕ) → e ≤ i → stands x t i e ≡ false
@@ -236,12 +161,12 @@ piece_past t inside i e g h =
 
 -- ---- a group
 
-pub group_begins : (cells : List ℕ) (n : ℕ) (p : Parts) → p ≡ no_parts → tell_pieces (record { parts = p; last = 0; direct = false; made = n }) cells ≡ no_group n
+pub group_begins : (cells : List Cell) (n : ℕ) (p : Parts) → p ≡ no_parts → tell_pieces (record { parts = p; last = 0; direct = false; made = n }) cells ≡ no_group n
 unfolding tell_pieces no_group
 group_begins cells n p q =
     ap (λ (s : LogSegments). record { members = s; parts = p; made = n }) (chain_none cells) ∙ ap (λ (z : Parts). record { members = segments.none; parts = z; made = n }) q
 
-pub begins_kept : (cells : List ℕ) (n d link : ℕ) (p : Parts) → p ≡ no_parts → Room cells n link → PiecesKeep n d cells (record { parts = p; last = 0; direct = false; made = n })
+pub begins_kept : (cells : List Cell) (n d link : ℕ) (p : Parts) → p ≡ no_parts → Room cells n link → PiecesKeep n d cells (record { parts = p; last = 0; direct = false; made = n })
 unfolding sizes any_specifier
 begins_kept cells n d link p q h =
     let s : segments.none ≡ chain_at cells 0 = sym (chain_none cells) in
@@ -264,21 +189,21 @@ module _ (t : List ℕ) (brace : Reader) (i e n : ℕ) (x : Tried Group) (w : re
   unfolding group_at ◌then◌
   group_closes s j q y r = r ∙ ap (λ (z : Tried Group). z then closed) (q ∙ sym w)
 
-  pub group_refuses : (r : Refusal) → refused r ≡ x → (a : List ℕ) → tell (Reading.Refused r) a ≡ group_at t brace i e n
-  unfolding group_at ◌then◌ tell
-  group_refuses r q a = ap (λ (z : Tried Group). z then closed) (q ∙ sym w)
+  pub group_refuses : (r : Refusal) → refused r ≡ x → refused r ≡ group_at t brace i e n
+  unfolding group_at ◌then◌
+  group_refuses r q = ap (λ (z : Tried Group). z then closed) (q ∙ sym w)
 
-pub group_start : (try : ℕ → Group → Tried Group) (m i : ℕ) (cells : List ℕ) (n : ℕ) (p : Parts) → p ≡ no_parts
+pub group_start : (try : ℕ → Group → Tried Group) (m i : ℕ) (cells : List Cell) (n : ℕ) (p : Parts) → p ≡ no_parts
     → repeated try m i (tell_pieces (record { parts = p; last = 0; direct = false; made = n }) cells) ≡ repeated try m i (no_group n)
 group_start try m i cells n p q = ap (repeated try m i) (group_begins cells n p q)
 
-pub pieces_more : (n d : ℕ) (cells : List ℕ) (g : Pieces) → PiecesKeep n d cells g → n ≤ g.made
+pub pieces_more : (n d : ℕ) (cells : List Cell) (g : Pieces) → PiecesKeep n d cells g → n ≤ g.made
 pieces_more n d cells g h = let z = h.counted in omega arith
 
-pub pieces_room : (n d link : ℕ) (b a : List ℕ) (g : Pieces) → PiecesKeep n d b g → link ≤ n → 512 ≤ length a → take (8 * g.made) a ≡ take (8 * g.made) b → Room a g.made link
+pub pieces_room : (n d link : ℕ) (b a : List Cell) (g : Pieces) → PiecesKeep n d b g → link ≤ n → 64 ≤ length a → take g.made a ≡ take g.made b → Room a g.made link
 pieces_room n d link b a g h l m f =
     let z = h.counted in
     record { room = m; few = h.few; linked = omega arith; sound = sound_front b a g.made h.sound f }
 
-pub pieces_linked : (n d : ℕ) (b a : List ℕ) (g : Pieces) → PiecesKeep n d b g → 512 ≤ length a → take (8 * g.made) a ≡ take (8 * g.made) b → Room a g.made g.last
+pub pieces_linked : (n d : ℕ) (b a : List Cell) (g : Pieces) → PiecesKeep n d b g → 64 ≤ length a → take g.made a ≡ take g.made b → Room a g.made g.last
 pieces_linked n d b a g h m f = record { room = m; few = h.few; linked = h.ready.last; sound = sound_front b a g.made h.sound f }

@@ -10,10 +10,9 @@ use Rattle.widths.specs.declared.Wides.{Wides}
 use Rattle.colour.specs.declared.Scan.{Scan}
 use Rattle.colour.specs.Machine.{scan}
 use Rattle.colour.specs.Seeing.{seen_after}
-use Rattle.measure.specs.declared.Eye.{Eye}
 use Rattle.measure.specs.declared.Measure.{Measure}
-use Rattle.measure.specs.Measures.{begun_with, eye_on, looking, eye_after, second, wide_in, grown}
-use Rattle.measure.proofs.Measured.{measure_eq}
+use Rattle.measure.specs.Measures.{begun_with, eye_on, looking, eye_after, second, grown}
+use Rattle.measure.specs.Measured.{measure_eq}
 
 module _ (a : Measure) (s : List ℕ) (t : Scan) (n : ℕ) (e : t ≡ scan a.scan s) (f : n ≡ chars s) where
   -- by the crate's rule

@@ -22,7 +22,7 @@ use Rattle.scanning.specs.Resting.{is_resting}
 use Rattle.measure.specs.declared.Eye.{Eye}
 use Rattle.measure.specs.declared.Measure.{Measure}
 use Rattle.measure.specs.Measures.{eye_after, behind_padding, grown, Longer}
-use Rattle.measure.proofs.Measured.{measure_eq}
+use Rattle.measure.specs.Measured.{measure_eq}
 use Rattle.measure.proofs.Eyes.{eye_pad, wide_pad, eye_silent, wide_silent}
 
 -- padding is measured by its length, but for the search and the eye

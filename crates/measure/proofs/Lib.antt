@@ -5,4 +5,4 @@ pub mod Adding
 pub mod Plain
 pub mod Framed
 pub mod Walked
-pub mod Turns
+pub mod Taking

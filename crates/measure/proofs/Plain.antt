@@ -1,13 +1,13 @@
 -- Texts of ASCII without byte 27. Assumes nothing.
 use mathlib.Core.Path.{◌≡◌, refl, ap, sym, ◌∙◌}
-use mathlib.Core.Bool.{Bool, true, false, cond}
+use mathlib.Core.Bool.{Bool, true, false, cond, not, ◌&&◌}
+use Rattle.std.specs.List.{list_all}
 use mathlib.Core.List.{List, [], ◌∷◌}
-use Prim.Native.Nat.{ℕ, ◌+◌, ◌<◌, ◌≤◌}
+use Prim.Native.Nat.{ℕ, ◌+◌}
 use native.Mathlib.Omega.{arith}
 use lib.Dec.{eqb, ltb}
-use lib.ListN.{length, drop, get_or, drop_of_length-le}
-use borrow.Author.Tests.{ltb-true, lt-ltb, le-ltb, eq-eqb, ne_eqb, eqb-false}
-use Rattle.buffer.proofs.Parts.{drop_step}
+use lib.ListN.{length}
+use borrow.Author.Tests.{ltb-true, ne_eqb, eqb-false}
 use Rattle.characters.specs.Characters.{chars}
 use Rattle.characters.proofs.Counting.{begins_below}
 use Rattle.widths.specs.declared.Rule.{Rule}
@@ -26,29 +26,23 @@ use Rattle.scanning.proofs.Rests.{rests_outside}
 use Rattle.measure.specs.declared.Eye.{Eye}
 use Rattle.measure.specs.declared.Measure.{Measure}
 use Rattle.measure.specs.Measures.{begun_with, eye_on, eye_after, wide_in, behind_padding, is_plain, grown}
-use Rattle.measure.proofs.Measured.{measure_eq, grown_nil}
+use Rattle.measure.specs.Measured.{measure_eq, grown_nil}
 
 -- ---- byte by byte
 
-module _ (s : List ℕ) (i : ℕ) (h : i < length s) where
-  at : is_plain (drop i s) ≡ is_plain (get_or s i 0 ∷ drop (i + 1) s)
-  at = ap is_plain (drop_step s i h)
+-- ASCII, and not byte 27
+abbrev pub is_plain_byte : ℕ → Bool
+is_plain_byte b = cond (ltb b 0x80) (not (eqb b 27)) false
 
-  pub plain_on : get_or s i 0 < 0x80 → (get_or s i 0 ≡ esc → ⊥) → is_plain (drop i s) ≡ is_plain (drop (i + 1) s)
-  unfolding is_plain
-  plain_on l n = at ∙ rw (lt-ltb (get_or s i 0) 0x80 l, ne_eqb (get_or s i 0) esc n, is_plain)
-
-  pub not_ascii : 0x80 ≤ get_or s i 0 → is_plain (drop i s) ≡ false
-  unfolding is_plain
-  not_ascii l = at ∙ rw (le-ltb (get_or s i 0) 0x80 l, is_plain)
-
-  pub not_free : get_or s i 0 < 0x80 → get_or s i 0 ≡ esc → is_plain (drop i s) ≡ false
-  unfolding is_plain
-  not_free l e = at ∙ rw (lt-ltb (get_or s i 0) 0x80 l, eq-eqb (get_or s i 0) esc e, is_plain)
-
-pub plain_end_lem : (s : List ℕ) (i : ℕ) → length s ≤ i → is_plain (drop i s) ≡ true
+pub plain_all : (s : List ℕ) → is_plain s ≡ list_all is_plain_byte s
 unfolding is_plain
-plain_end_lem s i h = ap is_plain (drop_of_length-le s h)
+plain_all [] = refl
+plain_all (b ∷ s) = by (ltb b 0x80) (eqb b esc) (plain_all s)
+  where
+    by : {r t : Bool} (l e : Bool) → r ≡ t → ◌≡◌ {A = Bool} (elim l as (λ _. Bool) [ true ↦ elim e [ true ↦ false | false ↦ r ] | false ↦ false ]) (cond l (not e) false && t)
+    by true true h = refl
+    by true false h = h
+    by false e h = refl
 
 -- ---- what it says of every byte
 

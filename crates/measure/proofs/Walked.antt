@@ -25,7 +25,7 @@ use Rattle.colour.proofs.Seeing.{visible_wides, seen_raised, seen_in_one_pass}
 use Rattle.measure.specs.declared.Eye.{Eye}
 use Rattle.measure.specs.declared.Measure.{Measure}
 use Rattle.measure.specs.Measures.{fresh, begun_with, eye_on, eye_after, wide_in, nothing, grown, more, inserted_in, padding_in}
-use Rattle.measure.proofs.Measured.{measure_eq, anew}
+use Rattle.measure.specs.Measured.{measure_eq, anew}
 
 -- the eye behind the three parts in turn: what was counted before is only added to
 module _ (s : Settings) (f : Format) (x y : ℕ) (t : Scan) (u : List ℕ) (n : ℕ) where

@@ -1,1 +1,4 @@
 pub mod Measures
+pub mod Sinks
+pub mod Measured
+pub mod Sinking

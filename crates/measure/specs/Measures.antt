@@ -1,5 +1,5 @@
 -- Scaffolding, for proofs alone: what measuring a text gives: all that is known of it without its bytes. Assumes nothing.
-use Rattle.std.specs.Prelude.{ℕ, zero, suc, ◌+◌, ◌-◌, ◌*◌, ◌≤◌, ◌≡◌, Bool, true, false, List, [], ◌∷◌, eqb, ltb, length}
+use Rattle.std.specs.Prelude.{ℕ, zero, suc, ◌+◌, ◌-◌, ◌*◌, ◌≤◌, ◌<◌, ◌^◌, ◌≡◌, Bool, true, false, List, [], ◌∷◌, eqb, ltb, length}
 use Rattle.characters.specs.Characters.{chars}
 use Rattle.widths.specs.declared.Rule.{Rule}
 use Rattle.widths.specs.declared.Pending.{Pending}
@@ -109,6 +109,10 @@ pub record Small (a : Measure) : Type 0 where
   pub count : a.count ≤ a.len
   pub seen : a.scan.sequences + a.scan.held ≤ a.count
   pub few : FewBits a.eye.awaited a.eye.bits
+
+-- n bytes more can be measured
+abbrev pub Measurable : Measure → ℕ → Type 0
+Measurable a n = (Small a) × (a.len + n < 2 ^ 58)
 
 -- the bytes that a format inserts after the resets of a text measured as x
 unfoldable pub inserted_in : Settings → Format → Measure → ℕ

@@ -11,21 +11,19 @@ pub fn inserted_in(s: Settings, f: Format, x: Measure) -> usize
     requires { x.scan.resets < 2 ^ 58 }
     ensures { result ≡ inserted_in s f x }
 {
-    let k = f.look;
-    let t = x.scan;
-    t.resets * prefix_len(s, k)
+    x.scan.resets * prefix_len(s, f.look)
 }
 
 // The padding that the format gives to a text measured as x, into which n bytes are inserted.
 pub fn padding_in(s: Settings, f: Format, x: Measure, n: usize) -> usize
     ensures { result ≡ padding_in s f x n }
 {
-    let t = x.scan;
-    let due = less(f.width, less(x.count, t.sequences));
-    less(due, against_padding(s.straight, n))
+    let seen = x.count.saturating_sub(x.scan.sequences);
+    let due = f.width.saturating_sub(seen);
+    due.saturating_sub(against_padding(s.straight, n))
 }
 
-// How many of n bytes inserted count against the padding: all in the crate's mode, none in straight mode.
+// How many of n bytes inserted count against the padding: all in the crate's mode, none in straight mode. The mode is a `bool` (a), a bit of the settings byte.
 fn against_padding(straight: bool, n: usize) -> usize
     ensures { result ≡ cond straight 0 n }
 {
@@ -33,13 +31,4 @@ fn against_padding(straight: bool, n: usize) -> usize
         return 0;
     }
     n
-}
-
-fn less(x: usize, y: usize) -> usize
-    ensures { result ≡ x - y }
-{
-    if y <= x {
-        return x - y;
-    }
-    0
 }

@@ -4,13 +4,14 @@ ghost use Rattle.characters.specs.Characters.{chars, has};
 ghost use Rattle.colour.specs.Machine.{scan};
 ghost use Rattle.colour.specs.Sequences.{esc};
 ghost use Rattle.scanning.specs.Resting.{is_resting};
-ghost use Rattle.measure.specs.Measures.{nothing, behind_padding, is_plain, grown, Small};
+ghost use Rattle.scanning.specs.Room.{Searchable};
+ghost use Rattle.measure.specs.Measures.{nothing, behind_padding, is_plain, grown, Measurable};
 
 use super::padding::eye_behind;
 use super::seeing::see;
 use super::{Eye, Measure};
 use characters::{Counted, count_chars};
-use colour::{Scan, State};
+use colour::Scan;
 use scanning::skipping::{rests, scan_text};
 use widths::Rule;
 
@@ -19,12 +20,7 @@ pub fn none(rule: Rule) -> Measure
     ensures { result ≡ nothing rule }
 {
     Measure {
-        scan: Scan {
-            state: State::Outside,
-            held: 0,
-            sequences: 0,
-            resets: 0,
-        },
+        scan: Scan::default(),
         eye: Eye {
             rule,
             awaited: 0,
@@ -40,17 +36,12 @@ pub fn none(rule: Rule) -> Measure
 const SHORT: usize = 8;
 
 // The measure of what a measures, then the text s.
-pub fn add(a: Measure, s: &[u8]) -> Measure
-    requires { (Small a) × (a.len + length s.now < 2 ^ 58) }
+pub(crate) fn add(a: Measure, s: &[u8]) -> Measure
+    requires { Measurable a (length s.now) }
     ensures { result ≡ grown a s.now }
 {
-    let t = a.scan;
-    if s.len() <= SHORT {
-        if rests(t) {
-            if is_plain(s) {
-                return add_plain(a, s);
-            }
-        }
+    if s.len() <= SHORT && rests(a.scan) && is_plain(s) {
+        return add_plain(a, s);
     }
     add_any(a, s)
 }
@@ -59,32 +50,21 @@ pub fn add(a: Measure, s: &[u8]) -> Measure
 fn is_plain(s: &[u8]) -> bool
     ensures { result ≡ is_plain s.now }
 {
-    let mut i = 0;
-    while i < s.len() {
-        if 0x7F < s[i] {
-            return false;
-        }
-        if s[i] == 27 {
-            return false;
-        }
-        i += 1;
-    }
-    true
+    s.iter().all(|&b| b < 0x80 && b != 27)
 }
 
 // The measure with a plain text more, where no sequence has begun: it is all seen, and each byte counts one.
 fn add_plain(a: Measure, s: &[u8]) -> Measure
-    requires small { (Small a) × (a.len + length s.now < 2 ^ 58) }
+    requires small { Measurable a (length s.now) }
     requires held_value { (is_resting a.scan.state a.scan.held ≡ true) × (is_plain s.now ≡ true) }
     ensures { result ≡ grown a s.now }
 {
     let n = s.len();
-    let t = a.scan;
     Measure {
-        scan: t,
-        eye: eye_past(a.eye, t, n),
+        eye: eye_past(a.eye, a.scan, n),
         count: a.count + n,
         len: a.len + n,
+        ..a
     }
 }
 
@@ -100,20 +80,17 @@ fn eye_past(e: Eye, t: Scan, n: usize) -> Eye
 
 // The measure with any text more.
 fn add_any(a: Measure, s: &[u8]) -> Measure
-    requires { (Small a) × (a.len + length s.now < 2 ^ 58) }
+    requires { Measurable a (length s.now) }
     ensures { result ≡ grown a s.now }
 {
-    let t = a.scan;
     let c = count_chars(s, 27);
-    let u = scan_found(t, s, c.met);
-    let e = a.eye;
-    let rule = e.rule;
-    match rule {
+    let u = scan_found(a.scan, s, c.met);
+    match a.eye.rule {
         Rule::Characters => Measure {
             scan: u,
-            eye: e,
             count: a.count + c.chars,
             len: a.len + s.len(),
+            ..a
         },
         Rule::Places => add_places(a, s, c, u),
     }
@@ -121,14 +98,12 @@ fn add_any(a: Measure, s: &[u8]) -> Measure
 
 // The same by the places rule, where s was counted as c and u is the search after it.
 fn add_places(a: Measure, s: &[u8], c: Counted, u: Scan) -> Measure
-    requires small { (Small a) × (a.len + length s.now < 2 ^ 58) }
+    requires small { Measurable a (length s.now) }
     requires rule_value { (a.eye.rule ≡ Rule.Places) × (u ≡ scan a.scan s.now) }
     requires chars_value { (c.chars ≡ chars s.now) × (c.met ≡ has esc s.now) }
     ensures { result ≡ grown a s.now }
 {
-    let t = a.scan;
-    let e = a.eye;
-    let w = see(t, e.awaited, e.bits, s, c);
+    let w = see(a.scan, a.eye.awaited, a.eye.bits, s, c);
     let p = w.pending;
     Measure {
         scan: u,
@@ -144,14 +119,12 @@ fn add_places(a: Measure, s: &[u8], c: Counted, u: Scan) -> Measure
 
 // The search after s, in which byte 27 was met or not: without it the search stays as it is where no sequence has begun.
 fn scan_found(t: Scan, s: &[u8], met: bool) -> Scan
-    requires s_bound { (t.sequences + t.held + length s.now < 2 ^ 60) × (t.resets + length s.now < 2 ^ 60) }
+    requires s_bound { Searchable t (length s.now) }
     requires met_value { met ≡ has esc s.now }
     ensures { result ≡ scan t s.now }
 {
-    if !met {
-        if rests(t) {
-            return t;
-        }
+    if !met && rests(t) {
+        return t;
     }
     scan_text(t, s)
 }

@@ -9,9 +9,11 @@ pub mod framing;
 pub mod growing;
 pub mod padding;
 mod seeing;
+pub mod sink;
 
 // By which rule a text is counted and, by the places rule, what is seen of a character that has begun: how many of its bytes are still to
-// come, and the bits that those before have said. It stays small, as it is handed on with every measure.
+// come, and the bits that those before have said. It stays small, as it is handed on with every measure: with a `Pending` in it, in which a byte is left over,
+// it would take six bytes and not four (d).
 #[derive(Clone, Copy)]
 pub struct Eye {
     pub rule: Rule,

@@ -3,7 +3,8 @@ ghost use Rattle.std.specs.Prelude.{◌≡◌, ◌+◌, ◌<◌, ◌≤◌, ◌^
 ghost use Rattle.colour.specs.Formatting.{before, pad_byte};
 ghost use Rattle.colour.specs.Machine.{scan};
 ghost use Rattle.scanning.specs.Resting.{is_resting};
-ghost use Rattle.measure.specs.Measures.{grown, behind_padding, Small};
+ghost use Rattle.scanning.specs.Room.{Searchable};
+ghost use Rattle.measure.specs.Measures.{grown, behind_padding, Measurable};
 
 use super::{Eye, Measure};
 use colour::Scan;
@@ -34,14 +35,13 @@ pub fn before_text(a: Alignment, n: usize) -> usize
 
 // The measure of what a measures, then n bytes of padding.
 pub(crate) fn pad(a: Measure, z: Padding, n: usize) -> Measure
-    requires { (Small a) × (a.len + n < 2 ^ 58) }
+    requires { Measurable a n }
     ensures { result ≡ grown a (replicate n (pad_byte z)) }
 {
     if n == 0 {
         return a;
     }
-    let t = a.scan;
-    let u = scan_padding(t, z, n);
+    let u = scan_padding(a.scan, z, n);
     Measure {
         scan: u,
         eye: eye_behind(a.eye, u),
@@ -55,8 +55,7 @@ pub(crate) fn pad(a: Measure, z: Padding, n: usize) -> Measure
 pub(crate) fn eye_behind(e: Eye, u: Scan) -> Eye
     ensures { result ≡ behind_padding e (is_resting u.state u.held) }
 {
-    let rule = e.rule;
-    match rule {
+    match e.rule {
         Rule::Characters => e,
         Rule::Places => places_behind(e, rests(u)),
     }
@@ -78,7 +77,7 @@ fn places_behind(e: Eye, rests: bool) -> Eye
 
 // A `0` may go on with a sequence that has begun: only where none has is the padding passed over.
 fn scan_padding(t: Scan, z: Padding, n: usize) -> Scan
-    requires { (t.sequences + t.held + n < 2 ^ 60) × (t.resets + n < 2 ^ 60) }
+    requires { Searchable t n }
     ensures { result ≡ scan t (replicate n (pad_byte z)) }
 {
     if rests(t) {
@@ -86,10 +85,8 @@ fn scan_padding(t: Scan, z: Padding, n: usize) -> Scan
     }
     let b = pad_byte(z);
     let mut u = t;
-    let mut i = 0;
-    while i < n {
+    for _ in 0..n {
         u = step(u, b);
-        i += 1;
     }
     u
 }

@@ -5,9 +5,9 @@ use mathlib.Core.Path.{◌≡◌, refl, ap, subst, ◌∙◌}
 use mathlib.Core.List.{List}
 use native.Mathlib.Omega.{arith}
 use native.Mathlib.Decide.{dec_lt}
-use Rattle.words.specs.declared.LogMetadata.{LogMetadata}
+use Rattle.segments.specs.declared.Cell.{Cell}
 use Rattle.segments.specs.declared.Kind.{Kind}
-use Rattle.segments.specs.Segments.{LogSegment, LogSegments, text, specifier, group, none, more, ◌and_then◌}
+use Rattle.segments.specs.Segments.{LogSegment, text, specifier, group}
 use Rattle.segments.specs.Sizes.{size, sizes}
 use Rattle.segments.specs.Pool.{kind_at, back, last_member, segment_at, chain_at, Tidy}
 use Rattle.segments.proofs.Chains.{back_below, chain_none, chain_step, segment_text_lem, segment_group, segment_specifier}
@@ -20,7 +20,7 @@ size_least (text i j) = omega arith
 size_least (specifier m f) = omega arith
 size_least (group s f) = omega arith
 
-module _ (cells : List ℕ) where
+module _ (cells : List Cell) where
   -- the segments back from a link that isn't 0: the last, and those back from there
   sizes_step : (m : ℕ) → sizes (chain_at cells (m + 1)) ≡ sizes (chain_at cells (back cells m)) + size (segment_at cells m)
   sizes_step m = ap sizes (chain_step cells m) ∙ sizes_and_then (chain_at cells (back cells m)) (segment_at cells m)
@@ -40,8 +40,8 @@ module _ (cells : List ℕ) where
   size_held i h = by (kind_at cells i) refl
     where
       by : (k : Kind) → kind_at cells i ≡ k → size (segment_at cells i) ≡ sizes (chain_at cells (last_member cells i)) + 1
-      by Kind.Text e = omega (arith, ap size (segment_text_lem cells i e))
-      by Kind.Group e = ap size (segment_group cells i e)
+      by (Kind.Text from to) e = omega (arith, ap size (segment_text_lem cells i e))
+      by (Kind.Group last) e = ap size (segment_group cells i e)
       by (Kind.Specifier m) e = omega (arith, ap size (segment_specifier cells i m e))
 
   -- what was made within the segment at i, and within the members back from l, links back to nothing before that

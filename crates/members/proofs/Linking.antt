@@ -3,11 +3,12 @@ use Prim.Native.Nat.{ℕ, zero, suc, ◌+◌, ◌-◌, ◌≤◌}
 use mathlib.Core.Path.{◌≡◌, refl, sym, ap, ◌∙◌}
 use mathlib.Core.List.{List}
 use native.Mathlib.Omega.{arith}
+use Rattle.segments.specs.declared.Cell.{Cell}
 use Rattle.segments.specs.Pool.{back}
 use Rattle.segments.proofs.Chains.{back_below}
 use Rattle.members.specs.Links.{back_by, OnChain}
 
-module _ (cells : List ℕ) where
+module _ (cells : List Cell) where
   pub by_below : (n l : ℕ) → back_by cells n l ≤ l
   unfolding back_by
   by_below zero l = omega arith

@@ -1,1 +1,2 @@
+-- Laws of the search.
 pub mod Searching

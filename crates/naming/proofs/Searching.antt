@@ -5,16 +5,17 @@ use mathlib.Core.Bool.{Bool, true, false, ◌||◌, or-true, or-false}
 use mathlib.Core.List.{List}
 use native.Mathlib.Omega.{arith}
 use Rattle.words.specs.declared.LogMetadata.{LogMetadata}
+use Rattle.segments.specs.declared.Cell.{Cell}
 use Rattle.segments.specs.declared.Kind.{Kind}
 use Rattle.segments.specs.Segments.{named_in, named_among}
 use Rattle.segments.specs.Pool.{kind_at, back, last_member, segment_at, chain_at}
 use Rattle.segments.proofs.Joining.{named_and_then}
 use Rattle.segments.proofs.Chains.{chain_none, chain_step, segment_text_lem, segment_specifier, segment_group}
 
-module _ (kind : LogMetadata → Bool) (p : List ℕ) where
+module _ (kind : LogMetadata → Bool) (p : List Cell) where
   -- one segment, by its kind
   module _ (i : ℕ) (k : Kind) (e : k ≡ kind_at p i) where
-    pub named_text : k ≡ Kind.Text → false ≡ named_in kind (segment_at p i)
+    pub named_text : {from to : ℕ} → k ≡ Kind.Text from to → false ≡ named_in kind (segment_at p i)
     unfolding named_in
     named_text g = sym (ap (named_in kind) (segment_text_lem p i (sym e ∙ g)))
 
@@ -22,7 +23,7 @@ module _ (kind : LogMetadata → Bool) (p : List ℕ) where
     unfolding named_in
     named_specifier m g r f = f ∙ sym (ap (named_in kind) (segment_specifier p i m (sym e ∙ g)))
 
-    pub named_group : k ≡ Kind.Group → (l : ℕ) → l ≡ last_member p i → (r : Bool) → r ≡ named_among kind (chain_at p l) → r ≡ named_in kind (segment_at p i)
+    pub named_group : {last : ℕ} → k ≡ Kind.Group last → (l : ℕ) → l ≡ last_member p i → (r : Bool) → r ≡ named_among kind (chain_at p l) → r ≡ named_in kind (segment_at p i)
     unfolding named_in
     named_group g l u r f =
         f ∙ ap (λ (x : ℕ). named_among kind (chain_at p x)) u ∙ sym (ap (named_in kind) (segment_group p i (sym e ∙ g)))

@@ -22,7 +22,7 @@ use Rattle.record.specs.Layout.{Laid}
 use Rattle.checks.specs.Checks.{record_refusal}
 use Rattle.record.specs.Contents.{record_of}
 use Rattle.fields.specs.Lines.{line_of}
-use Rattle.packing.specs.declared.Answer.{Answer}
+use Rattle.std.specs.Prelude.{Ok, Err}
 use Rattle.answer.specs.Answers.{Outcome, line, refused, in_room, passed, record_outcome, answer_of, buffer_after}
 use Rattle.outcomes.proofs.Refusals.{refusal_most}
 use Rattle.outcomes.specs.Program.{line_room, outcome_line, refusal_line, session_text, fitting, session_outcome}
@@ -35,12 +35,12 @@ pub record Lined (o : Outcome) (k : ℕ) : Type 0 where
   pub is : o ≡ line text
   pub long : length text ≡ k
 
-pub lined : (o : Outcome) (k : ℕ) → Answer.Line k ≡ answer_of o → Lined o k
+pub lined : (o : Outcome) (k : ℕ) → Ok k ≡ answer_of o → Lined o k
 unfolding answer_of
 lined (line s) k e = record { text = s; is = refl; long = cc }
 lined (refused r) k e = let z : ◌≡◌ {A = ℕ} 0 1 = cc in absurd (omega (arith, z))
 
-pub refused_by : (o : Outcome) (r : Refusal) → Answer.Refused r ≡ answer_of o → o ≡ refused r
+pub refused_by : (o : Outcome) (r : Refusal) → Err r ≡ answer_of o → o ≡ refused r
 unfolding answer_of
 refused_by (line s) r e = let z : ◌≡◌ {A = ℕ} 0 1 = cc in absurd (omega (arith, z))
 refused_by (refused q) r e = cc
@@ -114,7 +114,7 @@ part_written d x at h =
     ∙ ap (λ (l : List ℕ). take at d ++ l) (append-nil (x ++ drop (length x) p))
     ∙ ap (λ (l : List ℕ). take at d ++ (x ++ l)) (drop-drop (length x) at d)
 
-module _ (form : Form) (settings : Settings) (t : List ℕ) (s : LogSegments) (d : Laid) (k : ℕ) (e : Answer.Line k ≡ answer_of (record_outcome form settings t s d line_room)) where
+module _ (form : Form) (settings : Settings) (t : List ℕ) (s : LogSegments) (d : Laid) (k : ℕ) (e : Ok k ≡ answer_of (record_outcome form settings t s d line_room)) where
   abbrev its : Outcome
   its = record_outcome form settings t s d line_room
 
@@ -144,7 +144,7 @@ module _ (form : Form) (settings : Settings) (t : List ℕ) (s : LogSegments) (d
       ∙ ap (put_at out at) (sym (line_shown its x told.is))
 
 -- a record that is refused
-module _ (o : Outcome) (r : Refusal) (e : Answer.Refused r ≡ answer_of o) where
+module _ (o : Outcome) (r : Refusal) (e : Err r ≡ answer_of o) where
   pub refused_shown : outcome_line o ≡ refusal_line r
   refused_shown = refusal_shown o r (refused_by o r e)
 
@@ -159,7 +159,7 @@ outcome_most form settings t s d = most (record_outcome form settings t s d line
 
 -- ---- the answer and the buffer, whether a text fits the room or not
 
-pub answer_fits : (out s : List ℕ) → length s ≤ length out → Answer.Line (length s) ≡ answer_of (in_room (length out) s)
+pub answer_fits : (out s : List ℕ) → length s ≤ length out → Ok (length s) ≡ answer_of (in_room (length out) s)
 unfolding answer_of
 answer_fits out s h = ap answer_of (sym (held (length out) s h))
 
@@ -167,7 +167,7 @@ pub buffer_fits : (out s : List ℕ) → length s ≤ length out → put_at out 
 unfolding buffer_after
 buffer_fits out s h = ap (buffer_after out) (sym (held (length out) s h))
 
-pub answer_over : (out s : List ℕ) → length out < length s → Answer.Refused (Refusal.LineTooLong (length s)) ≡ answer_of (in_room (length out) s)
+pub answer_over : (out s : List ℕ) → length out < length s → Err (Refusal.LineTooLong (length s)) ≡ answer_of (in_room (length out) s)
 unfolding answer_of
 answer_over out s h = ap answer_of (sym (not_held (length out) s h))
 

@@ -9,11 +9,11 @@ use lib.Dec.{eqb}
 use lib.ListN.{length, take, drop, get_or}
 use lib.Seq.{append_snoc, drop-nil}
 use borrow.Author.Tests.{eq-eqb, ne_eqb, eqb-true, eqb-false}
+use Rattle.std.specs.Prelude.{Option, Some, None}
 use Rattle.buffer.specs.Bytes.{bytes, part, same}
 use Rattle.buffer.specs.Table.{none, some}
 use Rattle.buffer.proofs.Sameness.{both_true}
 use Rattle.buffer.proofs.Parts.{part_step, part_snoc, part_end}
-use Rattle.paths.specs.declared.Component.{Component}
 use Rattle.paths.specs.Paths.{before_first, pieces, is_dropped, kept, root, starts_with_dot, leading_dot, components, last_of, slashed, joined_by_slash, file_name}
 use Rattle.paths.specs.Remaining.{remaining, before_rest, components_from, ComponentWithin}
 
@@ -247,70 +247,56 @@ module _ (d : List ℕ) (i e : ℕ) (h : i < e) (g : e ≤ length d) where
       ∙ ap (λ (l : List ℕ). l ∷ k) (sym (part_one d i (omega arith)))
       ∙ ap (λ (l : List (List ℕ)). part i (i + 1) d ∷ l) (open_remaining ∙ remaining_dot t)
 
--- ---- the last components
-
-pub last_all : (n : ℕ) (xs : List (List ℕ)) → length xs ≤ n → last_of n xs ≡ xs
-unfolding last_of
-last_all n xs h =
-    let k : length xs - n ≡ 0 = omega arith in
-    ap (λ (m : ℕ). drop m xs) k
-
-pub last_some : (n k : ℕ) (xs : List (List ℕ)) → k ≡ length xs → drop (k - n) xs ≡ last_of n xs
-unfolding last_of
-last_some n k xs e = ap (λ (m : ℕ). drop (m - n) xs) e
+-- ---- components passed
 
 -- one component less to skip
-pub skip_one : (d : List ℕ) (e i j left : ℕ) (c next : Component) → c ≡ Component.At i j → remaining j e d ≡ components_from next e d → 0 < left
-    → drop (left - 1) (components_from next e d) ≡ drop left (components_from c e d)
+pub skip_one : (d : List ℕ) (e i j left : ℕ) (c next : Option (ℕ × ℕ)) → c ≡ Some (i, j) → remaining j e d ≡ components_from next e d
+    → drop left (components_from next e d) ≡ drop (suc left) (components_from c e d)
 unfolding components_from
-skip_one d e i j left c next p q h =
-    let k : suc (left - 1) ≡ left = omega arith in
-    ap (drop (left - 1)) (sym q)
-    ∙ ap (λ (n : ℕ). drop n (part i j d ∷ remaining j e d)) k
-    ∙ ap (λ (x : Component). drop left (components_from x e d)) (sym p)
+skip_one d e i j left c next p q = ap (drop left) (sym q) ∙ ap (λ (x : Option (ℕ × ℕ)). drop (suc left) (components_from x e d)) (sym p)
 
-pub skip_none : (d : List ℕ) (e left : ℕ) (c : Component) → c ≡ Component.Nothing → drop left (components_from c e d) ≡ []
+pub skip_none : (d : List ℕ) (e left : ℕ) (c : Option (ℕ × ℕ)) → c ≡ None → drop left (components_from c e d) ≡ []
 unfolding components_from
-skip_none d e left c p = ap (λ (x : Component). drop left (components_from x e d)) p ∙ drop-nil left
+skip_none d e left c p = ap (λ (x : Option (ℕ × ℕ)). drop left (components_from x e d)) p ∙ drop-nil left
 
 -- one component counted
-pub count_one : (d : List ℕ) (e i j : ℕ) (c next : Component) → c ≡ Component.At i j → remaining j e d ≡ components_from next e d
+pub count_one : (d : List ℕ) (e i j : ℕ) (c next : Option (ℕ × ℕ)) → c ≡ Some (i, j) → remaining j e d ≡ components_from next e d
     → length (components_from c e d) ≡ suc (length (components_from next e d))
 unfolding components_from
-count_one d e i j c next p q = ap (λ (x : Component). length (components_from x e d)) p ∙ ap (λ (l : List (List ℕ)). suc (length l)) q
+count_one d e i j c next p q = ap (λ (x : Option (ℕ × ℕ)). length (components_from x e d)) p ∙ ap (λ (l : List (List ℕ)). suc (length l)) q
 
-pub count_none : (d : List ℕ) (e : ℕ) (c : Component) → c ≡ Component.Nothing → length (components_from c e d) ≡ 0
+pub count_none : (d : List ℕ) (e : ℕ) (c : Option (ℕ × ℕ)) → c ≡ None → length (components_from c e d) ≡ 0
 unfolding components_from
-count_none d e c p = ap (λ (x : Component). length (components_from x e d)) p
+count_none d e c p = ap (λ (x : Option (ℕ × ℕ)). length (components_from x e d)) p
 
 -- where a component that was found lies
-pub within_at : (i e a b : ℕ) (c : Component) → c ≡ Component.At a b → ComponentWithin i e c → (i ≤ a) × (a < b) × (b ≤ e)
-within_at i e a b c p w = subst (λ (x : Component). ComponentWithin i e x) p w
+pub within_at : (i e a b : ℕ) (c : Option (ℕ × ℕ)) → c ≡ Some (a, b) → ComponentWithin i e c → (i ≤ a) × (a < b) × (b ≤ e)
+within_at i e a b c p w = subst (λ (x : Option (ℕ × ℕ)). ComponentWithin i e x) p w
 
 -- a component that lies after the end of another lies where that one does
-pub within_wider : (i a j e : ℕ) (c : Component) → (i ≤ a) × (a < j) × (j ≤ e) → ComponentWithin j e c → ComponentWithin i e c
-within_wider i a j e (Component.At x y) h w = (omega (arith, h, w), w.1, w.2)
-within_wider i a j e Component.Nothing h w = tt
+pub within_wider : (i a j e : ℕ) (c : Option (ℕ × ℕ)) → (i ≤ a) × (a < j) × (j ≤ e) → ComponentWithin j e c → ComponentWithin i e c
+within_wider i a j e (Some (x, y)) h w = (omega (arith, h, w), w.1, w.2)
+within_wider i a j e None h w = tt
 
 -- ---- what `{f}` shows
 
 -- the first component that is shown, and what follows it; or nothing
 module _ (d : List ℕ) (from e n : ℕ) where
-  pub name_shown : (i j : ℕ) → components_from (Component.At i j) e d ≡ last_of n (components (part from e d))
+  pub name_shown : (i j : ℕ) → components_from (Some (i, j)) e d ≡ last_of n (components (part from e d))
       → file_name n (part from e d) ≡ some (part i j d ++ slashed (remaining j e d))
   unfolding file_name joined_by_slash components_from
   name_shown i j p = ap joined_by_slash (sym p)
 
-  pub name_missing : components_from Component.Nothing e d ≡ last_of n (components (part from e d)) → file_name n (part from e d) ≡ none
+  pub name_missing : components_from None e d ≡ last_of n (components (part from e d)) → file_name n (part from e d) ≡ none
   unfolding file_name joined_by_slash components_from
   name_missing p = ap joined_by_slash (sym p)
 
 -- what follows: a slash, the next component and what follows that; or nothing
-pub slashed_next : (d : List ℕ) (at e i j : ℕ) → remaining at e d ≡ components_from (Component.At i j) e d
+pub slashed_next : (d : List ℕ) (at e i j : ℕ) → remaining at e d ≡ components_from (Some (i, j)) e d
     → slashed (remaining at e d) ≡ bytes "/" ++ (part i j d ++ slashed (remaining j e d))
 unfolding slashed components_from
 slashed_next d at e i j p = ap slashed p
 
-pub slashed_done : (d : List ℕ) (at e : ℕ) → remaining at e d ≡ components_from Component.Nothing e d → slashed (remaining at e d) ≡ []
+pub slashed_done : (d : List ℕ) (at e : ℕ) → remaining at e d ≡ components_from None e d → slashed (remaining at e d) ≡ []
 unfolding slashed components_from
 slashed_done d at e p = ap slashed p

@@ -1,1 +1,2 @@
+-- Laws of the stores.
 pub mod Stored

@@ -3,15 +3,16 @@
 #![tactic(auto)]
 
 ghost use Rattle.std.specs.Prelude.{◌≤◌, length};
-ghost use Rattle.session.specs.Walking.{Ready, Lies};
+ghost use Rattle.answer.specs.Rooms.{Asked};
+ghost use Rattle.session.specs.Walking.{records_of, Served};
 
-use outcomes::refusing::put_refusal;
+use answer::Reading;
+use measure::sink::Place;
+use outcomes::{put_outcome, refusing};
 use pointing::point_at;
 use refusals::Refusal;
-use session::Opened;
-use session::opening::open_sheet;
-use session::records::put_record;
-use session::walking::{first_record, next_record};
+use segments::EMPTY;
+use session::{Sheet, sheet_in};
 use std::io::Read;
 
 mod pointing;
@@ -23,7 +24,8 @@ fn main(rt: HostRuntime) {
     write_output(&rt.stdout(), &rt.stderr(), &input[..n]);
 }
 
-// Reads until `buf` is full, the input ends or a read fails, and returns how many bytes it put at the front of `buf`.
+// Reads until `buf` is full, the input ends or a read fails, and returns how many bytes it put at the front of `buf`. The loop is its own (d): std's
+// `read_exact` tells no length where the input is short, and `read_to_end` needs a heap.
 fn read_full(input: &mut impl Read, buf: &mut [u8]) -> usize
     ensures { result ≤ length buf.new }
 {
@@ -39,45 +41,46 @@ fn read_full(input: &mut impl Read, buf: &mut [u8]) -> usize
 }
 
 fn write_output(out: &impl Print, err: &impl Print, d: &[u8]) {
-    let mut cells: [usize; 512] = [0; 512];
-    let opened = open_sheet(d, &mut cells);
-    match opened {
-        Opened::Open(n) => write_records(out, err, d, &cells, n),
-        Opened::Refused(r) => write_refusal(out, err, d, r),
+    let Some(sheet) = sheet_in(d) else {
+        write_refusal(out, err, Refusal::NotASheet);
+        return;
+    };
+    let mut cells = [EMPTY; 64];
+    match sheet.open(&mut cells) {
+        Ok(n) => write_records(out, err, &sheet, &sheet.reading(&cells, n)),
+        Err(r) => {
+            write_refusal(out, err, r);
+            if let Refusal::Dropped(p) = r {
+                point_at(err, &sheet, p);
+            }
+        }
     }
 }
 
-fn write_refusal(out: &impl Print, err: &impl Print, d: &[u8], r: Refusal) {
+fn write_refusal(out: &impl Print, err: &impl Print, r: Refusal) {
     let mut line = [0u8; 5];
-    let n = put_refusal(r, &mut line, 0);
+    let n = refusing::write_refusal(r, Place(0), &mut line).0;
     written(out, err, &line[..n]);
-    explain(err, d, r);
+    explain(err, r);
 }
 
-fn write_records(out: &impl Print, err: &impl Print, d: &[u8], cells: &[usize], n: usize)
-    requires { Ready d.now cells.now n }
+fn write_records(out: &impl Print, err: &impl Print, sheet: &Sheet<'_>, reading: &Reading<'_>)
+    requires { Served reading.now (records_of sheet.now) }
 {
-    let mut w = first_record(d);
-    // nothing is left to do once the output takes no more
-    while 0 < w.left && write_record(out, err, d, cells, n, w.i, w.j) {
-        w = next_record(d, w);
+    for body in sheet.records() {
+        // nothing is left to do once the output takes no more
+        if !write_record(out, err, reading, body) {
+            break;
+        }
     }
 }
 
-fn write_record(
-    out: &impl Print,
-    err: &impl Print,
-    d: &[u8],
-    cells: &[usize],
-    n: usize,
-    i: usize,
-    j: usize,
-) -> bool
-    requires { Ready d.now cells.now n × Lies d.now i j }
+fn write_record(out: &impl Print, err: &impl Print, reading: &Reading<'_>, body: &[u8]) -> bool
+    requires { Asked reading.now body.now }
 {
     // the line buffer's 65,536 bytes and a newline
     let mut line = [0u8; 65537];
-    let k = put_record(d, cells, n, i, j, &mut line, 0);
+    let k = put_outcome(reading, body, &mut line, 0);
     written(out, err, &line[..k])
 }
 
@@ -93,55 +96,40 @@ fn written(out: &impl Print, err: &impl Print, bytes: &[u8]) -> bool {
     false
 }
 
-// Why the whole sheet is refused. The others are refusals of a record.
-fn explain(err: &impl Print, d: &[u8], r: Refusal) {
-    match r {
-        Refusal::TemplateTooLong => say(
-            err,
-            b"the sheet is refused, 1: its template has more than 1,024 bytes\n",
-        ),
-        Refusal::TemplateNotUtf8 => say(
-            err,
-            b"the sheet is refused, 2: its template is not UTF-8\n",
-        ),
-        Refusal::Failure => say(
-            err,
-            b"the sheet is refused, 3: its template cannot be read\n",
-        ),
-        Refusal::NoMessage => say(
-            err,
-            b"the sheet is refused, 4: its template names {s} nowhere\n",
-        ),
-        Refusal::TooManySegments => say(
-            err,
-            b"the sheet is refused, 5: its template has more than 64 parts\n",
-        ),
-        Refusal::TooDeep => say(
-            err,
-            b"the sheet is refused, 6: braces of its template stand more than eight deep\n",
-        ),
-        Refusal::TooWide => say(
-            err,
-            b"the sheet is refused, 7: its template asks for a width above 512\n",
-        ),
-        Refusal::TooManyF => say(
-            err,
-            b"the sheet is refused, 8: a specifier of its template has more than 255 f\n",
-        ),
-        Refusal::HalfEscape => say(
-            err,
-            b"the sheet is refused, 9: a backslash ends its template inside a brace\n",
-        ),
-        Refusal::NotASheet => say(
-            err,
-            b"the sheet is refused, 15: it is not laid out as one, has an unknown settings bit, or has more than 65,536 bytes\n",
-        ),
-        Refusal::Dropped(p) => point_at(err, d, p),
-        Refusal::FieldTooLong => say(err, b""),
-        Refusal::FieldNotUtf8 => say(err, b""),
-        Refusal::LineTooLong(_) => say(err, b""),
-        Refusal::NotARecord => say(err, b""),
-    }
+// Why the whole sheet is refused. Of one whose template drops bytes the place says it (`point_at`); the others are refusals of a record, and no sheet has them.
+fn explain(err: &impl Print, r: Refusal) {
+    let words: &[u8] = match r {
+        Refusal::TemplateTooLong => {
+            b"the sheet is refused, 1: its template has more than 1,024 bytes\n"
+        }
+        Refusal::TemplateNotUtf8 => b"the sheet is refused, 2: its template is not UTF-8\n",
+        Refusal::Failure => b"the sheet is refused, 3: its template cannot be read\n",
+        Refusal::NoMessage => b"the sheet is refused, 4: its template names {s} nowhere\n",
+        Refusal::TooManySegments => {
+            b"the sheet is refused, 5: its template has more than 64 parts\n"
+        }
+        Refusal::TooDeep => {
+            b"the sheet is refused, 6: braces of its template stand more than eight deep\n"
+        }
+        Refusal::TooWide => {
+            b"the sheet is refused, 7: its template asks for a width above 512\n"
+        }
+        Refusal::TooManyF => {
+            b"the sheet is refused, 8: a specifier of its template has more than 255 f\n"
+        }
+        Refusal::HalfEscape => {
+            b"the sheet is refused, 9: a backslash ends its template inside a brace\n"
+        }
+        Refusal::NotASheet => {
+            b"the sheet is refused, 15: it is not laid out as one, has an unknown settings bit, or has more than 65,536 bytes\n"
+        }
+        Refusal::Dropped(_)
+        | Refusal::FieldTooLong
+        | Refusal::FieldNotUtf8
+        | Refusal::LineTooLong(_)
+        | Refusal::NotARecord => return,
+    };
+    say(err, words);
 }
 
 // A word that the error output doesn't take is lost: there is nowhere else to say it.

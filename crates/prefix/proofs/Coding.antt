@@ -1,21 +1,21 @@
 -- Laws of a prefix as it is built: what a byte and a code add, the rule of the table of codes, and the end. Assumes nothing.
 use mathlib.Core.Path.{◌≡◌, refl, ap, sym, ◌∙◌}
-use mathlib.Core.Bool.{true, false}
+use mathlib.Core.Bool.{Bool, true, false}
 use mathlib.Core.List.{List, [], ◌∷◌, ◌++◌, append_assoc, append-nil}
 use Prim.Native.Nat.{ℕ, ◌+◌, ◌<◌, ◌≤◌}
 use native.Mathlib.Numerals.{add-one}
 use native.Mathlib.Omega.{arith}
-use lib.ListN.{length, take, get_or, set, length-set}
-use lib.Seq.{take-suc-set}
+use lib.ListN.{length, take, drop, get_or, set, length-set}
+use lib.Seq.{take-suc-set, drop-cons}
 use borrow.Author.Tests.{ne_eqb}
 use Rattle.buffer.specs.Bytes.{bytes}
 use Rattle.words.specs.declared.Color.{Color}
 use Rattle.words.specs.declared.Color.TheVariants.{Black, Red, Green, Yellow, Blue, Magenta, Cyan, White, BrightBlack, BrightWhite}
 use Rattle.colour.specs.declared.Look.{Look}
-use Rattle.colour.specs.declared.Ink.TheVariants.{Bare, Inked}
+use Rattle.std.specs.Prelude.{None, Some}
 use Rattle.colour.specs.Sequences.{esc}
 use Rattle.colour.specs.Looks.{foreground, ink_codes, where_it_applies, codes, following, sequence, prefix}
-use Rattle.prefix.specs.Opening.{between, codes_from, Coded, sequence_ended, foregrounds, foreground_at}
+use Rattle.prefix.specs.Opening.{between, codes_from, Coded, sequence_ended, applied, styles_of}
 
 -- a byte more at the front, two, three
 pub take_push : (s : List ℕ) (n b : ℕ) → n < length s → take (n + 1) (set s n b) ≡ take n s ++ b ∷ []
@@ -70,31 +70,30 @@ pub no_code : (d : List ℕ) (n code : ℕ) → Coded d d n n false code
 unfolding where_it_applies
 no_code d n code = record { text = λ cs. refl; least = omega arith; most = omega arith }
 
--- the rule of the table
-pub foreground_table : (c : Color) → foreground c ≡ get_or foregrounds (foreground_at c) 0 ∷ get_or foregrounds (foreground_at c + 1) 0 ∷ []
+-- a colour has two digits
+two_digits : (c : Color) → get_or (foreground c) 0 0 ∷ get_or (foreground c) 1 0 ∷ [] ≡ foreground c
 unfolding foreground
-foreground_table Black = refl
-foreground_table Red = refl
-foreground_table Green = refl
-foreground_table Yellow = refl
-foreground_table Blue = refl
-foreground_table Magenta = refl
-foreground_table Cyan = refl
-foreground_table White = refl
-foreground_table BrightBlack = refl
-foreground_table BrightWhite = refl
+two_digits Black = refl
+two_digits Red = refl
+two_digits Green = refl
+two_digits Yellow = refl
+two_digits Blue = refl
+two_digits Magenta = refl
+two_digits Cyan = refl
+two_digits White = refl
+two_digits BrightBlack = refl
+two_digits BrightWhite = refl
 
--- a colour, whose two digits the table has
-pub ink_code : (d : List ℕ) (n b i : ℕ) (c : Color) → n + 3 ≤ length d → b ≡ between n → i ≡ foreground_at c
-    → take (n + 3) (set (set (set d n b) (n + 1) (get_or foregrounds i 0)) (n + 2) (get_or foregrounds (i + 1) 0)) ≡ take n d ++ codes_from (between n) (ink_codes (Inked c))
+pub ink_code : (d : List ℕ) (n b : ℕ) (f : List ℕ) (c : Color) → n + 3 ≤ length d → b ≡ between n → f ≡ foreground c
+    → take (n + 3) (set (set (set d n b) (n + 1) (get_or f 0 0)) (n + 2) (get_or f 1 0)) ≡ take n d ++ codes_from (between n) (ink_codes (Some c))
 unfolding ink_codes following
-ink_code d n b i c h e g =
-    take_three d n b (get_or foregrounds i 0) (get_or foregrounds (i + 1) 0) h
-    ∙ ap (λ (j : ℕ). take n d ++ b ∷ get_or foregrounds j 0 ∷ get_or foregrounds (j + 1) 0 ∷ []) g
-    ∙ ap (λ (l : List ℕ). take n d ++ b ∷ l) (sym (foreground_table c) ∙ sym (append-nil (foreground c)))
-    ∙ ap (λ (k : ℕ). take n d ++ codes_from k (ink_codes (Inked c))) e
+ink_code d n b f c h e g =
+    take_three d n b (get_or f 0 0) (get_or f 1 0) h
+    ∙ ap (λ (l : List ℕ). take n d ++ b ∷ get_or l 0 0 ∷ get_or l 1 0 ∷ []) g
+    ∙ ap (λ (l : List ℕ). take n d ++ b ∷ l) (two_digits c ∙ sym (append-nil (foreground c)))
+    ∙ ap (λ (k : ℕ). take n d ++ codes_from k (ink_codes (Some c))) e
 
-pub no_ink : (a : List ℕ) (b : ℕ) → a ≡ a ++ codes_from b (ink_codes Bare)
+pub no_ink : (a : List ℕ) (b : ℕ) → a ≡ a ++ codes_from b (ink_codes None)
 unfolding ink_codes
 no_ink a b = sym (append-nil a)
 
@@ -118,19 +117,17 @@ closed_prefix : (k : Look) (s : List ℕ) → s ≡ esc ∷ codes_from 0x5B (cod
 unfolding prefix
 closed_prefix k s e = ap sequence_ended e ∙ closed_codes (codes k)
 
--- the five styles in their order, then the colour
-pub codes_prefix : (k : Look) (d₀ d₁ d₂ d₃ d₄ d₅ d₆ : List ℕ) (n₁ n₂ n₃ n₄ n₅ n₆ : ℕ) → take 1 d₀ ≡ esc ∷ []
-    → Coded d₀ d₁ 1 n₁ k.styles.bold 0x31 → Coded d₁ d₂ n₁ n₂ k.styles.dimmed 0x32 → Coded d₂ d₃ n₂ n₃ k.styles.underline 0x34
-    → Coded d₃ d₄ n₃ n₄ k.styles.italic 0x33 → Coded d₄ d₅ n₄ n₅ k.styles.strike 0x39
-    → take n₆ d₆ ≡ take n₅ d₅ ++ codes_from (between n₅) (ink_codes k.ink) → sequence_ended (take n₆ d₆) ≡ prefix k
-unfolding codes between
-codes_prefix k d₀ d₁ d₂ d₃ d₄ d₅ d₆ n₁ n₂ n₃ n₄ n₅ n₆ s h₁ h₂ h₃ h₄ h₅ h₆ =
-    let c₅ = ink_codes k.ink in
-    let c₄ = where_it_applies k.styles.strike (bytes "9") c₅ in
-    let c₃ = where_it_applies k.styles.italic (bytes "3") c₄ in
-    let c₂ = where_it_applies k.styles.underline (bytes "4") c₃ in
-    let c₁ = where_it_applies k.styles.dimmed (bytes "2") c₂ in
-    let c₀ = where_it_applies k.styles.bold (bytes "1") c₁ in
-    closed_prefix k (take n₆ d₆)
-    (h₆ ∙ h₅.text c₅ ∙ h₄.text c₄ ∙ h₃.text c₃ ∙ h₂.text c₂ ∙ h₁.text c₁
-    ∙ ap (λ (l : List ℕ). l ++ codes_from 0x5B c₀) s)
+-- ---- the styles in their order, then the colour
+
+pub begun : (d : List ℕ) (cs : List (List ℕ)) → 0 < length d → take 1 (set d 0 27) ++ codes_from (between 1) cs ≡ esc ∷ codes_from 0x5B cs
+unfolding between
+begun d cs h = ap (λ (l : List ℕ). l ++ codes_from 0x5B cs) (take_push d 0 27 h)
+
+-- one style more
+pub applied_next : (s : List (Bool × ℕ)) (i : ℕ) (y : Bool × ℕ) (cs : List (List ℕ)) → i < length s
+    → where_it_applies (get_or s i y).0 ((get_or s i y).1 ∷ []) (applied (drop (i + 1) s) cs) ≡ applied (drop i s) cs
+applied_next s i y cs h = rw (add-one) (ap (λ (l : List (Bool × ℕ)). applied l cs) (sym (drop-cons s i y h)))
+
+pub codes_prefix : (k : Look) (s : List ℕ) → s ≡ esc ∷ codes_from 0x5B (applied (styles_of k.styles) (ink_codes k.ink)) → sequence_ended s ≡ prefix k
+unfolding codes
+codes_prefix k s e = closed_prefix k s e

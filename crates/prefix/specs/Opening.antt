@@ -1,8 +1,7 @@
 -- Scaffolding, for proofs alone: A prefix as it is built, code after code. Assumes nothing.
 use Rattle.std.specs.Prelude.{ℕ, ◌+◌, ◌≤◌, ◌≡◌, Bool, cond, List, [], ◌∷◌, ◌++◌, eqb, take}
 use Rattle.buffer.specs.Bytes.{byte, bytes}
-use Rattle.words.specs.declared.Color.{Color}
-use Rattle.words.specs.declared.Color.TheVariants.{Black, Red, Green, Yellow, Blue, Magenta, Cyan, White, BrightBlack, BrightWhite}
+use Rattle.words.specs.declared.Styles.{Styles}
 use Rattle.colour.specs.Looks.{where_it_applies, following}
 
 -- what stands before a code: `[` where byte 27 alone stands before it, else `;`
@@ -26,19 +25,11 @@ sequence_ended [] = []
 sequence_ended (b ∷ []) = []
 sequence_ended (b ∷ c ∷ s) = b ∷ c ∷ s ++ bytes "m"
 
--- the codes of the colours, two digits to each
-abbrev pub foregrounds : List ℕ
-foregrounds = bytes "30313233343536379097"
+-- the codes of the styles that apply, before others
+abbrev pub applied : List (Bool × ℕ) → List (List ℕ) → List (List ℕ)
+applied [] cs = cs
+applied (y ∷ rest) cs = where_it_applies y.0 (y.1 ∷ []) (applied rest cs)
 
--- where the two digits of a colour stand in the table of the codes
-abbrev pub foreground_at : Color → ℕ
-foreground_at Black = 0
-foreground_at Red = 2
-foreground_at Green = 4
-foreground_at Yellow = 6
-foreground_at Blue = 8
-foreground_at Magenta = 10
-foreground_at Cyan = 12
-foreground_at White = 14
-foreground_at BrightBlack = 16
-foreground_at BrightWhite = 18
+-- "style codes in the order 1 bold, 2 dimmed, 4 underline, 3 italic, 9 strike"
+abbrev pub styles_of : Styles → List (Bool × ℕ)
+styles_of y = (y.bold, byte "1") ∷ (y.dimmed, byte "2") ∷ (y.underline, byte "4") ∷ (y.italic, byte "3") ∷ (y.strike, byte "9") ∷ []

@@ -2,10 +2,10 @@
 #![tactic(auto)]
 
 ghost use Rattle.std.specs.Prelude.{◌≡◌, ◌++◌, ◌+◌, ◌<◌, ◌≤◌, length, take};
-ghost use Rattle.colour.specs.Looks.{prefix, ink_codes};
-ghost use Rattle.prefix.specs.Opening.{between, codes_from, sequence_ended, foreground_at, Coded};
+ghost use Rattle.colour.specs.Looks.{foreground, prefix, ink_codes};
+ghost use Rattle.prefix.specs.Opening.{between, codes_from, sequence_ended, Coded};
 
-use colour::{Ink, Look};
+use colour::Look;
 use words::Color;
 
 pub mod length;
@@ -13,15 +13,14 @@ pub mod length;
 // "the whole ends with the reset, bytes 27 91 48 109": what switches styles and a colour off again.
 pub const RESET: [u8; 4] = *b"\x1b[0m";
 
-// A code is a digit for a style and two for a colour.
-const STYLES: [u8; 5] = [b'1', b'2', b'4', b'3', b'9'];
+// A code is a digit for a style and two for a colour. The second table is looked up by the colour, for which a `const` would be built on the stack.
+const STYLES: [u8; 5] = *b"12439";
 
-const FOREGROUND: [u8; 20] = [
-    b'3', b'0', b'3', b'1', b'3', b'2', b'3', b'3', b'3', b'4', b'3', b'5', b'3', b'6', b'3', b'7',
-    b'9', b'0', b'9', b'7',
+static FOREGROUND: [[u8; 2]; 10] = [
+    *b"30", *b"31", *b"32", *b"33", *b"34", *b"35", *b"36", *b"37", *b"90", *b"97",
 ];
 
-// Writes the prefix of a look at the front of `into`, and returns its length: at most 15, and 0 where no colour or style applies.
+// Writes the prefix of a look at the front of `into`, and returns its length: at most 15, and 0, the length of no bytes (d), where no colour or style applies.
 // It is built in a lent buffer, code after code: a struct that holds it would be copied at each byte.
 pub fn put_prefix(k: Look, into: &mut [u8]) -> usize
     requires { 16 ≤ length into.old }
@@ -29,17 +28,22 @@ pub fn put_prefix(k: Look, into: &mut [u8]) -> usize
 {
     let s = k.styles;
     into[0] = 27;
-    let bold = with_style(into, 1, s.bold, STYLES[0]);
-    let dimmed = with_style(into, bold, s.dimmed, STYLES[1]);
-    let underline = with_style(into, dimmed, s.underline, STYLES[2]);
-    let italic = with_style(into, underline, s.italic, STYLES[3]);
-    let strike = with_style(into, italic, s.strike, STYLES[4]);
-    let ink = k.ink;
-    let n = with_ink(into, strike, ink);
+    let mut n = 1;
+    for (on, code) in [
+        (s.bold, STYLES[0]),
+        (s.dimmed, STYLES[1]),
+        (s.underline, STYLES[2]),
+        (s.italic, STYLES[3]),
+        (s.strike, STYLES[4]),
+    ] {
+        n = with_style(into, n, on, code);
+    }
+    n = with_ink(into, n, k.ink);
     ended(into, n)
 }
 
 // Writes the code of a style after the first n bytes, where the style applies, and returns the place after it.
+#[inline(always)]
 fn with_style(into: &mut [u8], n: usize, on: bool, code: u8) -> usize
     requires { (1 ≤ n) × (n + 2 ≤ length into.old) }
     ensures { Coded into.old into.new n result on code }
@@ -53,39 +57,30 @@ fn with_style(into: &mut [u8], n: usize, on: bool, code: u8) -> usize
 }
 
 // Writes the code of the colour after the first n bytes, where one applies, and returns the place after it.
-fn with_ink(into: &mut [u8], n: usize, ink: Ink) -> usize
+#[inline(always)]
+fn with_ink(into: &mut [u8], n: usize, ink: Option<Color>) -> usize
     requires { n + 3 ≤ length into.old }
     ensures { (take result into.new ≡ take n into.old ++ codes_from (between n) (ink_codes ink)) × ((n ≤ result) × (result ≤ n + 3)) }
 {
-    let Ink::Inked(c) = ink else {
+    let Some(c) = ink else {
         return n;
     };
-    let i = foreground_at(c);
+    let [tens, units] = foreground(c);
     into[n] = separator(n);
-    into[n + 1] = FOREGROUND[i];
-    into[n + 2] = FOREGROUND[i + 1];
+    into[n + 1] = tens;
+    into[n + 2] = units;
     n + 3
 }
 
-// Where the code of a colour stands in the table.
-fn foreground_at(c: Color) -> usize
-    ensures { (result ≡ foreground_at c) × (result ≤ 18) }
+// The code of a colour.
+#[tactic(auto, unfolding(colour::specs::Looks::foreground))]
+fn foreground(c: Color) -> [u8; 2]
+    ensures { result ≡ foreground c }
 {
-    match c {
-        Color::Black => 0,
-        Color::Red => 2,
-        Color::Green => 4,
-        Color::Yellow => 6,
-        Color::Blue => 8,
-        Color::Magenta => 10,
-        Color::Cyan => 12,
-        Color::White => 14,
-        Color::BrightBlack => 16,
-        Color::BrightWhite => 18,
-    }
+    FOREGROUND[c as usize]
 }
 
-// Writes the `m` that ends the sequence after the first n bytes, and returns the place after it; 0 where byte 27 stands alone.
+// Writes the `m` that ends the sequence after the first n bytes, and returns how long it is; 0, as above (d), where byte 27 stands alone.
 fn ended(into: &mut [u8], n: usize) -> usize
     requires { (1 ≤ n) × (n < length into.old) }
     ensures { (take result into.new ≡ sequence_ended (take n into.old)) × (result ≡ length (sequence_ended (take n into.old))) }
@@ -98,11 +93,9 @@ fn ended(into: &mut [u8], n: usize) -> usize
 }
 
 // What stands before a code that n bytes stand before: `[` after byte 27 alone, else `;`.
+#[tactic(auto, unfolding(crate::specs::Opening::between))]
 fn separator(n: usize) -> u8
     ensures { result ≡ between n }
 {
-    if n == 1 {
-        return b'[';
-    }
-    b';'
+    if n == 1 { b'[' } else { b';' }
 }

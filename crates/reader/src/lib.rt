@@ -1,5 +1,7 @@
 // Braces, contents and groups: a group holds braces and a brace may hold a group.
-#![tactic(auto)]
+// The place, the end and the pool stay parameters of their own (d): most calls change one of them, and clauses speak of `cells` before and after. `even` goes
+// beside `left` (a): the definitions (`brace_in`) name both, and document 01 tells items by odd and even depth.
+#![tactic(auto, unfolding(words::specs::Within::told, words::specs::Within::Fitting))]
 
 ghost use Rattle.std.specs.Prelude.{◌≡◌, ℕ, ◌+◌, ◌-◌, ◌*◌, ◌<◌, ◌≤◌, length, take};
 ghost use Rattle.segments.specs.Segments.{is_specifier};
@@ -7,14 +9,13 @@ ghost use Rattle.segments.specs.Pool.{segment_at};
 ghost use Rattle.building.specs.Reading.{separator, piece_at, inside_at, brace_in, group_in, item_in};
 ghost use Rattle.building.specs.Told.{tell, tell_items, tell_item, tell_pieces, tell_piece, further_built, Room, Keeps, ItemsKeep, ItemWithin, PiecesKeep, PieceWithin};
 
-use braces::{Closing, take_until_unbalanced};
-use building::{
-    Inner, ItemRead, Items, PieceRead, Pieces, Reading, build_group, build_log_segment,
-};
+use braces::take_until_unbalanced;
+use building::{Inner, Items, Pieces, build_group, build_log_segment};
 use lists::{parse_plain_item, parse_plain_piece, with_member, with_segment};
 use parts::no_parts;
 use refusals::Refusal;
-use segments::Kind;
+use segments::{Cell, Kind};
+use words::Read;
 
 // A brace at `from`.
 #[cycle(reading)]
@@ -25,29 +26,23 @@ pub fn parse_argument(
     left: usize,
     even: bool,
     link: usize,
-    cells: &mut [usize],
+    cells: &mut [Cell],
     n: usize,
-) -> Reading
+) -> Read<usize>
     requires { (from ≤ to) × (to ≤ length t.now) × (left ≤ 8) × Room cells.old n link }
     ensures cells_after { tell result cells.new ≡ brace_in left even t.now from to n }
     ensures keeps { Keeps (from + 1) to n link left cells.old cells.new result }
 {
     if !runs::stands_at(b'{', t, from, to) {
-        return Reading::Misfit;
+        return Ok(None);
     }
-    let found = take_until_unbalanced(t, from + 1, to);
-    match found {
-        Closing::At(c) => {
-            let o = parse_log_segment(t, from + 1, c, left, even, link, cells, n);
-            match o {
-                Reading::Fit(_, k) => Reading::Fit(c + 1, k),
-                Reading::Misfit => Reading::Misfit,
-                Reading::Refused(r) => Reading::Refused(r),
-            }
-        }
-        Closing::Nowhere => Reading::Misfit,
-        Closing::HalfEscape => Reading::Refused(Refusal::HalfEscape),
-    }
+    let Some(c) = take_until_unbalanced(t, from + 1, to)? else {
+        return Ok(None);
+    };
+    let Some((_, k)) = parse_log_segment(t, from + 1, c, left, even, link, cells, n)? else {
+        return Ok(None);
+    };
+    Ok(Some((c + 1, k)))
 }
 
 // The content of a brace: items with separators between them.
@@ -59,37 +54,37 @@ fn parse_log_segment(
     left: usize,
     even: bool,
     link: usize,
-    cells: &mut [usize],
+    cells: &mut [Cell],
     n: usize,
-) -> Reading
+) -> Read<usize>
     requires { (from ≤ to) × (to ≤ length t.now) × (left ≤ 8) × Room cells.old n link }
     ensures cells_after { tell result cells.new ≡ inside_at left even t.now from to n }
     ensures keeps { Keeps from to n link left cells.old cells.new result }
 {
     if left == 0 {
-        return Reading::Refused(Refusal::TooDeep);
+        return Err(Refusal::TooDeep);
     }
     let none = Items {
         parts: no_parts(),
         inner: Inner::Nothing,
         made: n,
     };
-    let o = parse_item(t, from, to, left - 1, even, link, cells, none, n);
-    match o {
-        ItemRead::Fit(j, c) => further_items(t, j, to, left - 1, even, link, cells, c, n),
-        ItemRead::Misfit => Reading::Misfit,
-        ItemRead::Refused(r) => Reading::Refused(r),
-    }
+    let Some((j, c)) = parse_item(t, from, to, left - 1, even, link, cells, none, n)? else {
+        return Ok(None);
+    };
+    further_items(t, j, to, left - 1, even, link, cells, c, n)
 }
 
+#[tactic(auto, unfolding(building::specs::Reading::separator))]
 pub fn separator_of(even: bool) -> u8
     ensures { result ≡ separator even }
 {
     if even { b'%' } else { b':' }
 }
 
-// The items after the first, and what they all add up to.
+// The items after the first, and what they all add up to. It is no `for`, nor is the walk of a group: each item says where the next one may begin (d).
 #[cycle(reading)]
+#[inline(always)]
 fn further_items(
     t: &[u8],
     from: usize,
@@ -97,11 +92,11 @@ fn further_items(
     left: usize,
     even: bool,
     link: usize,
-    cells: &mut [usize],
+    cells: &mut [Cell],
     c: Items,
     n: usize,
-) -> Reading
-    requires { (from ≤ to) × (to ≤ length t.now) × (left + 1 ≤ 8) × (512 ≤ length cells.old) × (link ≤ n) × ItemsKeep n link (left + 1) cells.old c }
+) -> Read<usize>
+    requires { (from ≤ to) × (to ≤ length t.now) × (left + 1 ≤ 8) × (64 ≤ length cells.old) × (link ≤ n) × ItemsKeep n link (left + 1) cells.old c }
     ensures by_index { (m : ℕ) → to - from ≤ m → tell result cells.new ≡ further_built left even t.now to m from (tell_items c cells.old) }
     ensures keeps { Keeps from to n link (left + 1) cells.old cells.new result }
 {
@@ -109,15 +104,11 @@ fn further_items(
     let mut c = c;
     let mut j = from;
     while runs::stands_at(separator, t, j, to) {
-        let o = parse_item(t, j + 1, to, left, even, link, cells, c, n);
-        match o {
-            ItemRead::Fit(k, d) => {
-                c = d;
-                j = k;
-            }
-            ItemRead::Misfit => return build_log_segment(c, link, j, cells),
-            ItemRead::Refused(r) => return Reading::Refused(r),
-        }
+        let Some((k, d)) = parse_item(t, j + 1, to, left, even, link, cells, c, n)? else {
+            break;
+        };
+        c = d;
+        j = k;
     }
     build_log_segment(c, link, j, cells)
 }
@@ -131,28 +122,22 @@ fn parse_item(
     left: usize,
     even: bool,
     link: usize,
-    cells: &mut [usize],
+    cells: &mut [Cell],
     c: Items,
     n: usize,
-) -> ItemRead
-    requires { (from ≤ to) × (to ≤ length t.now) × (left + 1 ≤ 8) × (512 ≤ length cells.old) × (link ≤ n) × ItemsKeep n link (left + 1) cells.old c }
+) -> Read<Items>
+    requires { (from ≤ to) × (to ≤ length t.now) × (left + 1 ≤ 8) × (64 ≤ length cells.old) × (link ≤ n) × ItemsKeep n link (left + 1) cells.old c }
     ensures cells_after { tell_item result cells.new ≡ item_in left even t.now to from (tell_items c cells.old) }
-    ensures front { take (8 * c.made) cells.new ≡ take (8 * c.made) cells.old }
+    ensures front { take c.made cells.new ≡ take c.made cells.old }
     ensures keeps { ItemWithin from to n link (left + 1) cells.new result }
 {
-    let o = parse_plain_item(t, from, to, even, link, cells, c);
-    match o {
-        ItemRead::Fit(j, d) => ItemRead::Fit(j, d),
-        ItemRead::Misfit => {
-            let g = parse_nested(t, from, to, left, !even, link, cells, c.made);
-            match g {
-                Reading::Fit(j, k) => ItemRead::Fit(j, with_segment(c, k)),
-                Reading::Misfit => ItemRead::Misfit,
-                Reading::Refused(r) => ItemRead::Refused(r),
-            }
-        }
-        ItemRead::Refused(r) => ItemRead::Refused(r),
+    if let Some(plain) = parse_plain_item(t, from, to, even, link, cells, c)? {
+        return Ok(Some(plain));
     }
+    let Some((j, k)) = parse_nested(t, from, to, left, !even, link, cells, c.made)? else {
+        return Ok(None);
+    };
+    Ok(Some((j, with_segment(c, k))))
 }
 
 // A group: pieces as long as they fit.
@@ -164,9 +149,9 @@ fn parse_nested(
     left: usize,
     even: bool,
     link: usize,
-    cells: &mut [usize],
+    cells: &mut [Cell],
     n: usize,
-) -> Reading
+) -> Read<usize>
     requires { (from ≤ to) × (to ≤ length t.now) × (left + 1 ≤ 8) × Room cells.old n link }
     ensures cells_after { tell result cells.new ≡ group_in left even t.now from to n }
     ensures keeps { Keeps from to n link (left + 1) cells.old cells.new result }
@@ -179,29 +164,20 @@ fn parse_nested(
     };
     let mut i = from;
     while i < to {
-        let o = parse_piece(t, i, to, left, even, cells, g, n);
-        match o {
-            PieceRead::Fit(j, h) => {
-                g = h;
-                i = j;
-            }
-            PieceRead::Misfit => return build_group(g, link, i, cells),
-            PieceRead::Refused(r) => return Reading::Refused(r),
-        }
+        let Some((j, h)) = parse_piece(t, i, to, left, even, cells, g, n)? else {
+            break;
+        };
+        g = h;
+        i = j;
     }
     build_group(g, link, i, cells)
 }
 
-fn is_specifier_at(cells: &[usize], i: usize) -> bool
-    requires { (512 ≤ length cells.now) × (i < 64) }
+fn is_specifier_at(cells: &[Cell], i: usize) -> bool
+    requires { (64 ≤ length cells.now) × (i < 64) }
     ensures { result ≡ is_specifier (segment_at cells.now i) }
 {
-    let k = pool::kind_at(cells, i);
-    match k {
-        Kind::Text => false,
-        Kind::Group => false,
-        Kind::Specifier(_) => true,
-    }
+    matches!(pool::kind_at(cells, i), Kind::Specifier(_))
 }
 
 // One piece of a group: a brace, else text or a parameter.
@@ -212,27 +188,23 @@ fn parse_piece(
     to: usize,
     left: usize,
     even: bool,
-    cells: &mut [usize],
+    cells: &mut [Cell],
     g: Pieces,
     n: usize,
-) -> PieceRead
-    requires { (from ≤ to) × (to ≤ length t.now) × (left + 1 ≤ 8) × (512 ≤ length cells.old) × PiecesKeep n left cells.old g }
+) -> Read<Pieces>
+    requires { (from ≤ to) × (to ≤ length t.now) × (left + 1 ≤ 8) × (64 ≤ length cells.old) × PiecesKeep n left cells.old g }
     ensures cells_after { tell_piece result cells.new ≡ piece_at t.now (brace_in left even t.now) to from (tell_pieces g cells.old) }
-    ensures front { take (8 * g.made) cells.new ≡ take (8 * g.made) cells.old }
+    ensures front { take g.made cells.new ≡ take g.made cells.old }
     ensures keeps { PieceWithin (from + 1) to n left cells.new result }
 {
     // most pieces are no brace, and to see that costs less than the call
-    let o = if runs::stands_at(b'{', t, from, to) {
-        parse_argument(t, from, to, left, even, g.last, cells, g.made)
+    let brace = if runs::stands_at(b'{', t, from, to) {
+        parse_argument(t, from, to, left, even, g.last, cells, g.made)?
     } else {
-        Reading::Misfit
+        None
     };
-    match o {
-        Reading::Fit(j, k) => {
-            let direct = is_specifier_at(cells, k - 1);
-            PieceRead::Fit(j, with_member(g, direct, k))
-        }
-        Reading::Misfit => parse_plain_piece(t, from, to, cells, g),
-        Reading::Refused(r) => PieceRead::Refused(r),
+    match brace {
+        Some((j, k)) => Ok(Some((j, with_member(g, is_specifier_at(cells, k - 1), k)))),
+        None => parse_plain_piece(t, from, to, cells, g),
     }
 }

@@ -1,7 +1,7 @@
 -- A record as bytes (document 01, "Session sheet and its program"): "source byte (0 device, 1 host), level byte, presence mask (1 file,
 -- 2 line, 4 module), u32 line, u16 lengths of file, module, timestamp, message, then those texts"; in the new form (document 02, E7) a fifth text, the head's
 -- serial, "and its length comes after the message's". Assumes nothing.
-use Rattle.std.specs.Prelude.{ℕ, zero, suc, ◌+◌, ◌*◌, ◌%◌, ◌/◌, Bool, true, false, ◌&&◌, List, [], ◌∷◌, eqb, leb, length, get_or}
+use Rattle.std.specs.Prelude.{ℕ, zero, suc, ◌+◌, ◌*◌, Bool, ◌&&◌, List, eqb, leb, length, get_or}
 use Rattle.buffer.specs.Bytes.{part}
 use Rattle.record.specs.declared.Form.{Form}
 

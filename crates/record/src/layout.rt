@@ -3,7 +3,7 @@ ghost use Rattle.std.specs.Prelude.{◌≡◌, true, ◌≤◌, ◌<◌, length}
 ghost use Rattle.record.specs.Layout.{texts, serial_length, right_size};
 ghost use Rattle.record.specs.Placed.{places_in, PlacesWithin};
 
-use super::numbers::{byte_at, u16_at, u32_at};
+use super::numbers::{u16_at, u32_at};
 use super::{Form, Places};
 
 // Where the texts begin.
@@ -52,19 +52,19 @@ pub fn places_in(form: Form, d: &[u8]) -> Places
     let message_to = timestamp_to + u16_at(d, 13);
     let serial_to = message_to + serial_length(form, d);
     Places {
-        source: byte_at(d, 0),
-        level: byte_at(d, 1),
-        mask: byte_at(d, 2),
+        source: usize::from(d[0]),
+        level: usize::from(d[1]),
+        mask: usize::from(d[2]),
         line: u32_at(d, 3),
         file_from: from,
-        file_to: file_to,
+        file_to,
         module_from: file_to,
-        module_to: module_to,
+        module_to,
         timestamp_from: module_to,
-        timestamp_to: timestamp_to,
+        timestamp_to,
         message_from: timestamp_to,
-        message_to: message_to,
+        message_to,
         serial_from: message_to,
-        serial_to: serial_to,
+        serial_to,
     }
 }

@@ -7,7 +7,9 @@ use super::{Level, Name, Source};
 use words::Color;
 
 // "Level numbers 1 to 5 mean ERROR, WARN, INFO, DEBUG, TRACE, coloured red, yellow, green, bright white, bright black; 0 is a print without level".
-// The only place that takes a level number apart: checks, names and colours go by what it answers.
+// The only place that takes a level number apart, by a match with ranges, which document 01 names (a): checks, names and colours go by what it answers.
+// By name and not by `From` (d): laws and clauses name it.
+#[tactic(auto, using(crate::proofs::LevelNumbers::over_five), unfolding(crate::specs::Levels::level_of, crate::specs::Levels::level_in))]
 pub fn level_of(n: usize) -> Level
     ensures { result ≡ level_of n }
 {
@@ -22,7 +24,8 @@ pub fn level_of(n: usize) -> Level
     }
 }
 
-// "0 device, 1 host"
+// "0 device, 1 host". By name, as `level_of` is (d).
+#[tactic(auto, unfolding(crate::specs::Contents::source_of))]
 pub fn source_of(n: usize) -> Source
     ensures { result ≡ source_of n }
 {

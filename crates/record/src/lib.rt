@@ -25,7 +25,8 @@ pub enum Name {
     Trace,
 }
 
-// What a level number means: a print without level, a level with its name and its colour, or nothing, so that the record is refused.
+// What a level number means: a print without level, a level with its name and its colour, or nothing, so that the record is refused: the three cases that
+// document 01 names (a).
 #[derive(Clone, Copy)]
 pub enum Level {
     Print,
@@ -40,7 +41,8 @@ pub enum Form {
     New,
 }
 
-// A record as numbers: what its bytes say, and the places of its texts in them.
+// A record as numbers: what its bytes say, and the places of its texts in them. Pairs stay plain numbers (d): clauses name each, and a type for them is no
+// shorter. So do source, level and mask (d): refusal 14 judges them before they mean anything, and says how large they may be.
 #[derive(Clone, Copy)]
 pub struct Places {
     pub source: usize,

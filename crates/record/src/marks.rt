@@ -1,28 +1,25 @@
 // What the presence mask marks as there.
-ghost use Rattle.std.specs.Prelude.{◌≡◌, ◌/◌, ◌%◌, eqb};
+ghost use Rattle.std.specs.Prelude.{◌≡◌};
+ghost use Rattle.record.specs.Contents.{marks};
 
-// "presence mask (1 file, 2 line, 4 module)"
-pub fn has_file(mask: usize) -> bool
-    ensures { result ≡ eqb (mask % 2) 1 }
-{
-    mask % 2 == 1
+// A field that may be absent.
+#[derive(Clone, Copy)]
+pub enum Field {
+    File,
+    Line,
+    Module,
+    Serial,
 }
 
-pub fn has_line(mask: usize) -> bool
-    ensures { result ≡ eqb (mask / 2 % 2) 1 }
+// Whether the mask marks the field: "presence mask (1 file, 2 line, 4 module)"; "Presence mask 8 marks it", the serial.
+pub fn marks(mask: usize, field: Field) -> bool
+    ensures { result ≡ marks mask field }
 {
-    mask / 2 % 2 == 1
-}
-
-pub fn has_module(mask: usize) -> bool
-    ensures { result ≡ eqb (mask / 4 % 2) 1 }
-{
-    mask / 4 % 2 == 1
-}
-
-// "Presence mask 8 marks it"
-pub fn has_serial(mask: usize) -> bool
-    ensures { result ≡ eqb (mask / 8 % 2) 1 }
-{
-    mask / 8 % 2 == 1
+    let bit = match field {
+        Field::File => 1,
+        Field::Line => 2,
+        Field::Module => 4,
+        Field::Serial => 8,
+    };
+    mask & bit != 0
 }

@@ -23,7 +23,7 @@ pub enum Refusal {
     Dropped(usize),
 }
 
-// The number of a refusal.
+// The number of a refusal: those of the C interface, with gaps, so that they are written out (a).
 pub fn number_of(r: Refusal) -> u8
     ensures { (result ≡ number r) × (result ≤ 17) }
 {
@@ -47,24 +47,13 @@ pub fn number_of(r: Refusal) -> u8
 }
 
 // What a refusal tells besides its number: the length of a line that is too long, the place of what a template drops.
+// No `Option` (a): the C interface gives it with the number in one `u64`, where 0 is what the others tell.
 pub fn value_with(r: Refusal) -> usize
     ensures { result ≡ value_with r }
 {
     match r {
-        Refusal::TemplateTooLong => 0,
-        Refusal::TemplateNotUtf8 => 0,
-        Refusal::Failure => 0,
-        Refusal::NoMessage => 0,
-        Refusal::TooManySegments => 0,
-        Refusal::TooDeep => 0,
-        Refusal::TooWide => 0,
-        Refusal::TooManyF => 0,
-        Refusal::HalfEscape => 0,
-        Refusal::FieldTooLong => 0,
-        Refusal::FieldNotUtf8 => 0,
         Refusal::LineTooLong(n) => n,
-        Refusal::NotARecord => 0,
-        Refusal::NotASheet => 0,
         Refusal::Dropped(p) => p,
+        _ => 0,
     }
 }

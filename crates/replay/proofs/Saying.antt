@@ -1,19 +1,19 @@
 -- What a case says, by the tests that the code makes. Assumes nothing.
 use Prim.Native.Nat.{ℕ, ◌+◌, ◌≤◌, ◌<◌}
 use mathlib.Core.Path.{◌≡◌, refl, ap, sym, ◌∙◌}
-use mathlib.Core.Bool.{Bool, true, false}
-use mathlib.Core.List.{List}
+use mathlib.Core.Bool.{Bool, true, false, ◌&&◌}
+use mathlib.Core.List.{List, [], ◌∷◌}
 use native.Mathlib.Omega.{arith}
 use lib.Dec.{eqb}
+use lib.Pointwise.{pointwise}
 use lib.ListN.{length, take}
 use lib.Seq.{take-append_seam}
 use borrow.Author.Tests.{eq-eqb, ne_eqb, le-leb, lt-leb}
 use Rattle.buffer.specs.Buffer.{put_at}
 use Rattle.buffer.specs.Bytes.{same}
-use Rattle.buffer.proofs.Sameness.{same→≡, ≡→same}
 use Rattle.refusals.specs.declared.Refusal.{Refusal}
 use Rattle.refusals.specs.Numbers.{number}
-use Rattle.packing.specs.declared.Answer.{Answer}
+use Rattle.std.specs.Prelude.{Ok, Err}
 use Rattle.answer.specs.Answers.{Outcome, line, refused, answer_of, buffer_after}
 use Rattle.outcomes.specs.Program.{refusal_line, session_outcome}
 use Rattle.outcomes.proofs.Answered.{lined, refused_by, line_left, session_fits}
@@ -21,13 +21,20 @@ use Rattle.replay.specs.declared.Verdict.{Verdict}
 use Rattle.replay.specs.declared.Tally.{Tally}
 use Rattle.replay.specs.Cases.{record_refused, said_lines, said_refusal, said_outcome, verdict_by, lent_room, judged, tally_with}
 
-pub told_same : (r : Bool) (x y : List ℕ) → (r ≡ true → x ≡ y) → (x ≡ y → r ≡ true) → r ≡ same x y
-told_same true x y f g = sym (≡→same x y (f refl))
-told_same false x y f g = by (same x y) refl
+-- whether two lists are the same, as code compares them
+pointwise_same : (x y : List ℕ) → pointwise eqb x y ≡ same x y
+unfolding same
+pointwise_same [] [] = refl
+pointwise_same [] (b ∷ y) = refl
+pointwise_same (a ∷ x) [] = refl
+pointwise_same (a ∷ x) (b ∷ y) = by (eqb a b) (pointwise_same x y)
   where
-    by : (b : Bool) → same x y ≡ b → false ≡ b
-    by true e = g (same→≡ x y e)
+    by : {r t : Bool} (c : Bool) → r ≡ t → (c && r) ≡ elim c as (λ _. Bool) [ true ↦ t | false ↦ false ]
+    by true e = e
     by false e = refl
+
+pub found_same : (x y : List ℕ) (r : Bool) → r ≡ pointwise eqb x y → r ≡ same x y
+found_same x y r e = e ∙ pointwise_same x y
 
 -- what was put at the front of a buffer stands there
 pub front : (d d' x : List ℕ) (k : ℕ) → k ≡ length x → d' ≡ put_at d 0 x → take k d' ≡ x
@@ -63,7 +70,7 @@ module _ (n : ℕ) (output : List ℕ) where
 
   -- a session call with room for what it answers
   module _ (sheet lent left : List ℕ) (room : length lent ≡ lent_room) where
-    pub line_said : (k : ℕ) → Answer.Line k ≡ answer_of (session_outcome sheet (length lent))
+    pub line_said : (k : ℕ) → Ok k ≡ answer_of (session_outcome sheet (length lent))
         → left ≡ buffer_after lent (session_outcome sheet (length lent))
         → (k ≤ lent_room) × (said_lines n output (take k left) ≡ said_outcome n output (session_outcome sheet lent_room))
     unfolding said_outcome
@@ -75,7 +82,7 @@ module _ (n : ℕ) (output : List ℕ) where
           ap (said_lines n output) f ∙ ap (said_outcome n output) (sym t.is) ∙ ap (λ (m : ℕ). said_outcome n output (session_outcome sheet m)) room,
         )
 
-    pub refusal_said : (r : Refusal) → Answer.Refused r ≡ answer_of (session_outcome sheet (length lent))
+    pub refusal_said : (r : Refusal) → Err r ≡ answer_of (session_outcome sheet (length lent))
         → said_refusal n output r ≡ said_outcome n output (session_outcome sheet lent_room)
     unfolding said_outcome
     refusal_said r e =
@@ -97,4 +104,3 @@ pub counted_most : (t : Tally) (v : Verdict) → ((tally_with t v).run ≤ t.run
 counted_most t Verdict.Same = omega arith
 counted_most t Verdict.Parted = omega arith
 counted_most t Verdict.Skipped = omega arith
-counted_most t Verdict.NoCase = omega arith

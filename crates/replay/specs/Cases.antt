@@ -43,4 +43,3 @@ abbrev pub tally_with : Tally → Verdict → Tally
 tally_with t Verdict.Same = record { run = t.run + 1; parted = t.parted; skipped = t.skipped }
 tally_with t Verdict.Parted = record { run = t.run + 1; parted = t.parted + 1; skipped = t.skipped }
 tally_with t Verdict.Skipped = record { run = t.run; parted = t.parted; skipped = t.skipped + 1 }
-tally_with t Verdict.NoCase = t

@@ -5,6 +5,7 @@ use mathlib.Core.List.{List}
 use native.Mathlib.Omega.{arith}
 use native.Mathlib.Decide.{dec_lt}
 use Rattle.words.specs.declared.LogFormat.{LogFormat}
+use Rattle.segments.specs.declared.Cell.{Cell}
 use Rattle.segments.specs.declared.Kind.{Kind}
 use Rattle.segments.specs.Segments.{LogSegment, LogSegments, group, none, more, ◌and_then◌}
 use Rattle.segments.specs.Sizes.{Low, Lows}
@@ -27,14 +28,14 @@ deep : (d : ℕ) (s : LogSegments) (f : LogFormat) → Low d (group s f) → (1 
 deep zero s f h = absurd h
 deep (suc d) s f h = (omega arith, subst (λ (n : ℕ). Lows n s) (let e : d ≡ suc d - 1 = omega arith in e) h.1)
 
-module _ (cells : List ℕ) (d : ℕ) where
-  group_low : (i : ℕ) → kind_at cells i ≡ Kind.Group → Low d (segment_at cells i) → (1 ≤ d) × Lows (d - 1) (chain_at cells (last_member cells i))
+module _ (cells : List Cell) (d : ℕ) where
+  group_low : (i : ℕ) {last : ℕ} → kind_at cells i ≡ Kind.Group last → Low d (segment_at cells i) → (1 ≤ d) × Lows (d - 1) (chain_at cells (last_member cells i))
   group_low i k h = deep d (chain_at cells (last_member cells i)) (format_at cells i) (subst (Low d) (segment_group cells i k) h)
 
-  pub group_deep : (i : ℕ) → kind_at cells i ≡ Kind.Group → Low d (segment_at cells i) → 1 ≤ d
+  pub group_deep : (i : ℕ) {last : ℕ} → kind_at cells i ≡ Kind.Group last → Low d (segment_at cells i) → 1 ≤ d
   group_deep i k h = (group_low i k h).0
 
-  pub members_low : (i l : ℕ) → kind_at cells i ≡ Kind.Group → l ≡ last_member cells i → Low d (segment_at cells i) → Lows (d - 1) (chain_at cells l)
+  pub members_low : (i l : ℕ) {last : ℕ} → kind_at cells i ≡ Kind.Group last → l ≡ last_member cells i → Low d (segment_at cells i) → Lows (d - 1) (chain_at cells l)
   members_low i l k e h = subst (λ (n : ℕ). Lows (d - 1) (chain_at cells n)) (sym e) (group_low i k h).1
 
   -- the link l, which isn't 0, leads to a member, and to those before it

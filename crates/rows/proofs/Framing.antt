@@ -16,7 +16,6 @@ use Rattle.measure.specs.declared.Measure.{Measure}
 use Rattle.measure.specs.Measures.{nothing, grown, inserted_in, padding_in}
 use Rattle.measure.proofs.Walked.{inserted_measured, padding_measured}
 use Rattle.segments.specs.Segments.{LogSegment}
-use Rattle.segments.specs.Pool.{segment_at}
 use Rattle.record.specs.declared.Level.{Level}
 use Rattle.record.specs.Records.{Record}
 use Rattle.record.specs.Placed.{laid_by}
@@ -24,10 +23,11 @@ use Rattle.record.specs.Contents.{record_of}
 use Rattle.rows.specs.declared.Row.{Row}
 use Rattle.dress.specs.declared.Frame.{Frame}
 use Rattle.dress.proofs.Framing.{empty, opening, Framed}
-use Rattle.leaves.specs.Places.{places_of, has_comparison, record_by, source_by, level_by, Lent, Readable}
+use Rattle.leaves.specs.declared.Shown.{Shown}
+use Rattle.leaves.specs.Places.{has_comparison, record_by, source_by, level_by, Lent}
 use Rattle.leaves.proofs.Fields.{there_told}
 use Rattle.rows.specs.Texts.{segment_text, raw_text, is_host, bare_message, bare_by, is_bare, format_of}
-use Rattle.rows.specs.Rows.{row_at, bare_row, row_in, row_of, frame_by, is_empty, Tabled}
+use Rattle.rows.specs.Rows.{bare_row, row_in, row_of, frame_by, is_empty}
 use Rattle.buffer.proofs.Sameness.{both_true}
 use Rattle.rows.proofs.Segments.{segment_bare, segment_formatted}
 
@@ -60,50 +60,50 @@ module _ (s : Settings) (t : List ℕ) (r : Record) (x : LogSegment) where
       by true e = ap (λ (w : Row). w.len) (row_of_bare e)
       by false e = ap (λ (w : Row). w.len) (row_of_formatted e)
 
-module _ (s : Settings) (t d numbers : List ℕ) (lent : Lent d numbers) where
-  -- what the numbers tell of the record
-  same_source : is_host (source_by numbers) ≡ is_host (record_by numbers d).source
-  unfolding record_by record_of laid_by places_of source_by
+module _ (s : Settings) (t d : List ℕ) (shown : Shown) (lent : Lent d shown) where
+  -- what is lent tells of the record
+  same_source : is_host (source_by shown) ≡ is_host (record_by shown d).source
+  unfolding record_by record_of laid_by source_by
   same_source = refl
 
-  told : bare_by numbers ≡ bare_message (record_by numbers d)
+  told : bare_by shown ≡ bare_message (record_by shown d)
   unfolding bare_by bare_message
-  told = ap (λ (b : Bool). b || has_comparison numbers) same_source ∙ ap (λ (b : Bool). is_host (record_by numbers d).source || b) (sym (there_told d numbers lent))
+  told = ap (λ (b : Bool). b || has_comparison shown) same_source ∙ ap (λ (b : Bool). is_host (record_by shown d).source || b) (sym (there_told d shown lent))
 
-  same_level : level_by numbers ≡ (record_by numbers d).level
-  unfolding record_by record_of laid_by places_of level_by
+  same_level : level_by shown ≡ (record_by shown d).level
+  unfolding record_by record_of laid_by level_by
   same_level = refl
 
-  known : (x : LogSegment) (b : Bool) → is_bare (bare_by numbers) x ≡ b → is_bare (bare_message (record_by numbers d)) x ≡ b
+  known : (x : LogSegment) (b : Bool) → is_bare (bare_by shown) x ≡ b → is_bare (bare_message (record_by shown d)) x ≡ b
   known x b e = ap (λ (q : Bool). is_bare q x) (sym told) ∙ e
 
-  pub bare_text : (x : LogSegment) → is_bare (bare_by numbers) x ≡ true → segment_text s t (record_by numbers d) x ≡ raw_text s t (record_by numbers d) x
-  bare_text x e = segment_bare s t (record_by numbers d) x (known x true e)
+  pub bare_text : (x : LogSegment) → is_bare (bare_by shown) x ≡ true → segment_text s t (record_by shown d) x ≡ raw_text s t (record_by shown d) x
+  bare_text x e = segment_bare s t (record_by shown d) x (known x true e)
 
-  pub formatted_text : (x : LogSegment) → is_bare (bare_by numbers) x ≡ false
-      → segment_text s t (record_by numbers d) x ≡ formatted s (format_of (level_by numbers) x) (raw_text s t (record_by numbers d) x)
+  pub formatted_text : (x : LogSegment) → is_bare (bare_by shown) x ≡ false
+      → segment_text s t (record_by shown d) x ≡ formatted s (format_of (level_by shown) x) (raw_text s t (record_by shown d) x)
   formatted_text x e =
-      segment_formatted s t (record_by numbers d) x (known x false e)
-      ∙ ap (λ (l : Level). formatted s (format_of l x) (raw_text s t (record_by numbers d) x)) (sym same_level)
+      segment_formatted s t (record_by shown d) x (known x false e)
+      ∙ ap (λ (l : Level). formatted s (format_of l x) (raw_text s t (record_by shown d) x)) (sym same_level)
 
   -- ---- rows
 
-  row_is_bare : (x : LogSegment) → is_bare (bare_by numbers) x ≡ true → row_of s t (record_by numbers d) x ≡ bare_row (length (segment_text s t (record_by numbers d) x))
-  row_is_bare x e = row_of_bare s t (record_by numbers d) x (known x true e)
+  row_is_bare : (x : LogSegment) → is_bare (bare_by shown) x ≡ true → row_of s t (record_by shown d) x ≡ bare_row (length (segment_text s t (record_by shown d) x))
+  row_is_bare x e = row_of_bare s t (record_by shown d) x (known x true e)
 
-  row_formatted : (x : LogSegment) → is_bare (bare_by numbers) x ≡ false
-      → row_of s t (record_by numbers d) x ≡ row_in s (format_of (level_by numbers) x) (raw_text s t (record_by numbers d) x) (length (segment_text s t (record_by numbers d) x))
+  row_formatted : (x : LogSegment) → is_bare (bare_by shown) x ≡ false
+      → row_of s t (record_by shown d) x ≡ row_in s (format_of (level_by shown) x) (raw_text s t (record_by shown d) x) (length (segment_text s t (record_by shown d) x))
   row_formatted x e =
-      row_of_formatted s t (record_by numbers d) x (known x false e)
-      ∙ ap (λ (l : Level). row_in s (format_of l x) (raw_text s t (record_by numbers d) x) (length (segment_text s t (record_by numbers d) x))) (sym same_level)
+      row_of_formatted s t (record_by shown d) x (known x false e)
+      ∙ ap (λ (l : Level). row_in s (format_of l x) (raw_text s t (record_by shown d) x) (length (segment_text s t (record_by shown d) x))) (sym same_level)
 
   -- what a format adds to the bytes of a text
-  formatted_length : (x : LogSegment) (f : Format) → is_bare (bare_by numbers) x ≡ false → f ≡ format_of (level_by numbers) x
-      → length (segment_text s t (record_by numbers d) x)
-      ≡ length (raw_text s t (record_by numbers d) x) + (inserted (opening s f) (raw_text s t (record_by numbers d) x) + (padded s f (raw_text s t (record_by numbers d) x) + (length (opening s f) + length (ending (opening s f)))))
+  formatted_length : (x : LogSegment) (f : Format) → is_bare (bare_by shown) x ≡ false → f ≡ format_of (level_by shown) x
+      → length (segment_text s t (record_by shown d) x)
+      ≡ length (raw_text s t (record_by shown d) x) + (inserted (opening s f) (raw_text s t (record_by shown d) x) + (padded s f (raw_text s t (record_by shown d) x) + (length (opening s f) + length (ending (opening s f)))))
   unfolding formatted
   formatted_length x f b e =
-      let y = raw_text s t (record_by numbers d) x in
+      let y = raw_text s t (record_by shown d) x in
       omega (
         arith,
         ap length (formatted_text x b ∙ ap (λ (g : Format). formatted s g y) (sym e)),
@@ -111,36 +111,36 @@ module _ (s : Settings) (t d numbers : List ℕ) (lent : Lent d numbers) where
         inserted_resets (opening s f) y,
       )
 
-  pub row_bare : (x : LogSegment) (w : Row) (n : ℕ) → is_bare (bare_by numbers) x ≡ true → n ≡ length (raw_text s t (record_by numbers d) x) → w ≡ bare_row n
-      → w ≡ row_of s t (record_by numbers d) x
+  pub row_bare : (x : LogSegment) (w : Row) (n : ℕ) → is_bare (bare_by shown) x ≡ true → n ≡ length (raw_text s t (record_by shown d) x) → w ≡ bare_row n
+      → w ≡ row_of s t (record_by shown d) x
   row_bare x w n e ne we = we ∙ ap bare_row (ne ∙ ap length (sym (bare_text x e))) ∙ sym (row_is_bare x e)
 
   -- no width and no prefix: nothing to pad, nothing to insert
-  pub row_none : (x : LogSegment) (f : Format) (w : Row) (n : ℕ) → is_bare (bare_by numbers) x ≡ false → f ≡ format_of (level_by numbers) x → f.width ≡ 0
-      → length (opening s f) ≡ 0 → n ≡ length (raw_text s t (record_by numbers d) x) → w ≡ bare_row n → w ≡ row_of s t (record_by numbers d) x
+  pub row_none : (x : LogSegment) (f : Format) (w : Row) (n : ℕ) → is_bare (bare_by shown) x ≡ false → f ≡ format_of (level_by shown) x → f.width ≡ 0
+      → length (opening s f) ≡ 0 → n ≡ length (raw_text s t (record_by shown d) x) → w ≡ bare_row n → w ≡ row_of s t (record_by shown d) x
   unfolding bare_row row_in ending
   row_none x f w n b e z p ne we =
-      let y = raw_text s t (record_by numbers d) x in
+      let y = raw_text s t (record_by shown d) x in
       let q = empty (opening s f) p in
       let u : 0 ≡ padded s f y = omega (arith, padded_small s f y) in
       let v : 0 ≡ inserted (opening s f) y = sym (ap (λ (k : List ℕ). inserted k y) q ∙ inserted_nil y) in
-      let l : n ≡ length (segment_text s t (record_by numbers d) x) = omega (arith, formatted_length x f b e, ap (λ (k : List ℕ). length (ending k)) q) in
+      let l : n ≡ length (segment_text s t (record_by shown d) x) = omega (arith, formatted_length x f b e, ap (λ (k : List ℕ). length (ending k)) q) in
       we ∙ (λ j. record { padding = u j; inserted = v j; len = l j })
-      ∙ ap (λ (g : Format). row_in s g y (length (segment_text s t (record_by numbers d) x))) e ∙ sym (row_formatted x b)
+      ∙ ap (λ (g : Format). row_in s g y (length (segment_text s t (record_by shown d) x))) e ∙ sym (row_formatted x b)
 
   -- else all come from the measure of the text and the length of the prefix
-  module _ (x : LogSegment) (f : Format) (m : Measure) (n p q e : ℕ) (b : is_bare (bare_by numbers) x ≡ false) (fe : f ≡ format_of (level_by numbers) x)
-      (me : m ≡ grown (nothing s.rule) (raw_text s t (record_by numbers d) x)) (ne : n ≡ inserted_in s f m) (pe : p ≡ padding_in s f m n) (qe : q ≡ length (opening s f))
+  module _ (x : LogSegment) (f : Format) (m : Measure) (n p q e : ℕ) (b : is_bare (bare_by shown) x ≡ false) (fe : f ≡ format_of (level_by shown) x)
+      (me : m ≡ grown (nothing s.rule) (raw_text s t (record_by shown d) x)) (ne : n ≡ inserted_in s f m) (pe : p ≡ padding_in s f m n) (qe : q ≡ length (opening s f))
       (ee : e ≡ cond (eqb q 0) 0 (q + 4)) where
-    inserted_is : n ≡ inserted (opening s f) (raw_text s t (record_by numbers d) x)
-    inserted_is = ne ∙ ap (inserted_in s f) me ∙ inserted_measured s f (raw_text s t (record_by numbers d) x)
+    inserted_is : n ≡ inserted (opening s f) (raw_text s t (record_by shown d) x)
+    inserted_is = ne ∙ ap (inserted_in s f) me ∙ inserted_measured s f (raw_text s t (record_by shown d) x)
 
-    padded_is : p ≡ padded s f (raw_text s t (record_by numbers d) x)
+    padded_is : p ≡ padded s f (raw_text s t (record_by shown d) x)
     padded_is =
-        let y = raw_text s t (record_by numbers d) x in
+        let y = raw_text s t (record_by shown d) x in
         pe ∙ ap (λ (k : Measure). padding_in s f k n) me ∙ ap (padding_in s f (grown (nothing s.rule) y)) inserted_is ∙ padding_measured s f y
 
-    pub row_counted : m.len + (n + (p + e)) ≡ length (segment_text s t (record_by numbers d) x)
+    pub row_counted : m.len + (n + (p + e)) ≡ length (segment_text s t (record_by shown d) x)
     row_counted =
         omega (
           arith,
@@ -151,12 +151,12 @@ module _ (s : Settings) (t d numbers : List ℕ) (lent : Lent d numbers) where
           formatted_length x f b fe,
         )
 
-    pub row_made : ◌≡◌ {A = Row} (record { padding = p; inserted = n; len = m.len + (n + (p + e)) }) (row_of s t (record_by numbers d) x)
+    pub row_made : ◌≡◌ {A = Row} (record { padding = p; inserted = n; len = m.len + (n + (p + e)) }) (row_of s t (record_by shown d) x)
     unfolding row_in
     row_made =
-        let y = raw_text s t (record_by numbers d) x in
+        let y = raw_text s t (record_by shown d) x in
         (λ j. record { padding = padded_is j; inserted = inserted_is j; len = row_counted j })
-        ∙ ap (λ (g : Format). row_in s g y (length (segment_text s t (record_by numbers d) x))) fe ∙ sym (row_formatted x b)
+        ∙ ap (λ (g : Format). row_in s g y (length (segment_text s t (record_by shown d) x))) fe ∙ sym (row_formatted x b)
 
   -- ---- frames
 
@@ -164,28 +164,22 @@ module _ (s : Settings) (t d numbers : List ℕ) (lent : Lent d numbers) where
   unfolding frame_by row_in formatted
   framed_plain f y z n e = record { left = refl; right = refl; between = refl; text = e }
 
-  framed_by : (x : LogSegment) (w : Frame) (row : Row) → is_bare (bare_by numbers) x ≡ false → row ≡ row_of s t (record_by numbers d) x
-      → w ≡ frame_by (format_of (level_by numbers) x) row → Framed s w (raw_text s t (record_by numbers d) x) (segment_text s t (record_by numbers d) x)
+  pub framed_by : (x : LogSegment) (w : Frame) (row : Row) → is_bare (bare_by shown) x ≡ false → row ≡ row_of s t (record_by shown d) x
+      → w ≡ frame_by (format_of (level_by shown) x) row → Framed s w (raw_text s t (record_by shown d) x) (segment_text s t (record_by shown d) x)
   framed_by x w row b re we =
-      subst (λ (k : Frame). Framed s k (raw_text s t (record_by numbers d) x) (segment_text s t (record_by numbers d) x))
-      (sym (we ∙ ap (frame_by (format_of (level_by numbers) x)) (re ∙ row_formatted x b)))
-      (framed_plain (format_of (level_by numbers) x) (raw_text s t (record_by numbers d) x) (segment_text s t (record_by numbers d) x) (length (segment_text s t (record_by numbers d) x)) (formatted_text x b))
+      subst (λ (k : Frame). Framed s k (raw_text s t (record_by shown d) x) (segment_text s t (record_by shown d) x))
+      (sym (we ∙ ap (frame_by (format_of (level_by shown) x)) (re ∙ row_formatted x b)))
+      (framed_plain (format_of (level_by shown) x) (raw_text s t (record_by shown d) x) (segment_text s t (record_by shown d) x) (length (segment_text s t (record_by shown d) x)) (formatted_text x b))
 
   -- a text is no longer before it is formatted
-  pub raw_shorter : (x : LogSegment) (b : Bool) → is_bare (bare_by numbers) x ≡ b
-      → length (raw_text s t (record_by numbers d) x) ≤ length (segment_text s t (record_by numbers d) x)
+  pub raw_shorter : (x : LogSegment) (b : Bool) → is_bare (bare_by shown) x ≡ b
+      → length (raw_text s t (record_by shown d) x) ≤ length (segment_text s t (record_by shown d) x)
   unfolding formatted
   raw_shorter x true e = omega (arith, ap length (bare_text x e))
   raw_shorter x false e =
-      let f = format_of (level_by numbers) x in
-      let y = raw_text s t (record_by numbers d) x in
+      let f = format_of (level_by shown) x in
+      let y = raw_text s t (record_by shown d) x in
       omega (arith, ap length (formatted_text x e), length_laid (opening s f) f (padded s f y) y)
-
--- the frame around the segment at i, by its row of the table
-pub framed_at : (s : Settings) (t d numbers cells table : List ℕ) (i : ℕ) → Readable cells d numbers (i + 1) → Tabled s t (record_by numbers d) cells table (i + 1)
-    → (w : Frame) → is_bare (bare_by numbers) (segment_at cells i) ≡ false → w ≡ frame_by (format_of (level_by numbers) (segment_at cells i)) (row_at table i)
-    → Framed s w (raw_text s t (record_by numbers d) (segment_at cells i)) (segment_text s t (record_by numbers d) (segment_at cells i))
-framed_at s t d numbers cells table i o r w q e = framed_by s t d numbers o.lent (segment_at cells i) w (row_at table i) q (r.row i (omega arith)) e
 
 module _ (s : Settings) (w : Frame) (x y : List ℕ) (h : Framed s w x y) where
   -- an empty frame leaves the text as it is

@@ -8,6 +8,7 @@ use native.Mathlib.Decide.{dec_lt}
 use borrow.Author.Tests.{eq-eqb, ne_eqb}
 use lib.ListN.{length}
 use Rattle.colour.specs.declared.Settings.{Settings}
+use Rattle.segments.specs.declared.Cell.{Cell}
 use Rattle.segments.specs.Pool.{back, segment_at, chain_at}
 use Rattle.segments.proofs.Chains.{back_below}
 use Rattle.record.specs.Records.{Record}
@@ -18,7 +19,7 @@ use Rattle.rows.proofs.Framing.{row_length_lem}
 use Rattle.rows.proofs.Segments.{members_none, members_length}
 use Rattle.rows.proofs.Tables.{tabled_less}
 
-module _ (cells table : List ℕ) where
+module _ (cells : List Cell) (table : List Row) where
   lengths_at : (b l : ℕ) → l ≡ b + 1 → lengths_below cells table (suc b) l ≡ lengths_below cells table b (back cells b) + (row_at table b).len
   unfolding lengths_below
   lengths_at b l e = rw (eq-eqb l (b + 1) e, lengths_below)

@@ -6,6 +6,7 @@ use native.Mathlib.Omega.{arith}
 use native.Mathlib.Decide.{dec_lt}
 use lib.ListN.{length}
 use Rattle.colour.specs.declared.Settings.{Settings}
+use Rattle.segments.specs.declared.Cell.{Cell}
 use Rattle.segments.specs.Pool.{back, segment_at, chain_at}
 use Rattle.segments.proofs.Chains.{back_below}
 use Rattle.record.specs.Records.{Record}
@@ -14,7 +15,7 @@ use Rattle.rows.specs.Texts.{segment_text, segments_text}
 use Rattle.rows.proofs.Segments.{members_length}
 
 -- the text of the members back from a link begins with that of those further back
-module _ (cells : List ℕ) (s : Settings) (t : List ℕ) (r : Record) where
+module _ (cells : List Cell) (s : Settings) (t : List ℕ) (r : Record) where
   by_shorter : (n l : ℕ) → length (segments_text s t r (chain_at cells (back_by cells n l))) ≤ length (segments_text s t r (chain_at cells l))
   unfolding back_by
   by_shorter zero l = omega arith

@@ -19,9 +19,10 @@ use Rattle.colour.specs.Shown.{Shown, text_of, joined}
 use Rattle.measure.specs.declared.Measure.{Measure}
 use Rattle.measure.specs.Measures.{grown}
 use Rattle.measure.proofs.Measured.{grown_append, grown_nil}
+use Rattle.segments.specs.declared.Cell.{Cell}
 use Rattle.segments.specs.declared.Kind.{Kind}
 use Rattle.segments.specs.Segments.{LogSegment, LogSegments, text, specifier, group, none, more, ◌and_then◌}
-use Rattle.segments.specs.Pool.{cell, kind_at, back, last_member, segment_at, chain_at}
+use Rattle.segments.specs.Pool.{kind_at, back, last_member, segment_at, chain_at}
 use Rattle.segments.proofs.Chains.{chain_none, chain_step, segment_text_lem, segment_group, segment_specifier}
 use Rattle.comparisons.specs.Comparisons.{Comparison, layout, laid_or_else}
 use Rattle.layouts.proofs.Running.{bare_group}
@@ -143,18 +144,18 @@ module _ (s : Settings) (t : List ℕ) (r : Record) where
 
   -- ---- in a pool
 
-  module _ (cells : List ℕ) where
+  module _ (cells : List Cell) where
     pub pool_none : segments_text s t r (chain_at cells 0) ≡ []
     pool_none = ap (segments_text s t r) (chain_none cells) ∙ text_none
 
     pub pool_step : (m : ℕ) → segments_text s t r (chain_at cells (m + 1)) ≡ segments_text s t r (chain_at cells (back cells m)) ++ segment_text s t r (segment_at cells m)
     pool_step m = ap (segments_text s t r) (chain_step cells m) ∙ text_and_then (chain_at cells (back cells m)) (segment_at cells m)
 
-    pub raw_of_text : (i : ℕ) → kind_at cells i ≡ Kind.Text → raw_text s t r (segment_at cells i) ≡ part (cell cells i 1) (cell cells i 2) t
+    pub raw_of_text : (i : ℕ) {from to : ℕ} → kind_at cells i ≡ Kind.Text from to → raw_text s t r (segment_at cells i) ≡ part from to t
     unfolding raw_text
     raw_of_text i k = ap (raw_text s t r) (segment_text_lem cells i k)
 
-    pub raw_of_group : (i : ℕ) → kind_at cells i ≡ Kind.Group → raw_text s t r (segment_at cells i) ≡ segments_text s t r (chain_at cells (last_member cells i))
+    pub raw_of_group : (i : ℕ) {last : ℕ} → kind_at cells i ≡ Kind.Group last → raw_text s t r (segment_at cells i) ≡ segments_text s t r (chain_at cells (last_member cells i))
     unfolding raw_text
     raw_of_group i k = ap (raw_text s t r) (segment_group cells i k)
 
@@ -163,7 +164,7 @@ module _ (s : Settings) (t : List ℕ) (r : Record) where
     raw_of_specifier i m k = ap (raw_text s t r) (segment_specifier cells i m k)
 
     -- a group's members, by the link to the last of them
-    pub raw_of_members : (i l : ℕ) → kind_at cells i ≡ Kind.Group → l ≡ last_member cells i → raw_text s t r (segment_at cells i) ≡ segments_text s t r (chain_at cells l)
+    pub raw_of_members : (i l : ℕ) {last : ℕ} → kind_at cells i ≡ Kind.Group last → l ≡ last_member cells i → raw_text s t r (segment_at cells i) ≡ segments_text s t r (chain_at cells l)
     raw_of_members i l k e = raw_of_group i k ∙ ap (λ (n : ℕ). segments_text s t r (chain_at cells n)) (sym e)
 
     -- the members back from a link that isn't 0, with i the place it leads to and b the link back from there

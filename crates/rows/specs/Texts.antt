@@ -11,6 +11,7 @@ use Rattle.parts.specs.Parts.{unformatted}
 use Rattle.record.specs.declared.Source.{Source}
 use Rattle.record.specs.declared.Level.{Level}
 use Rattle.record.specs.Records.{Record}
+use Rattle.leaves.specs.declared.Shown.{Shown}
 use Rattle.leaves.specs.Places.{has_comparison, record_by, source_by}
 use Rattle.leaves.specs.Fields.{is_there, field_text}
 use Rattle.formats.specs.Formats.{specifier_format, group_format}
@@ -29,15 +30,15 @@ raw_text s t r (text i j) = part i j t
 raw_text s t r (specifier m f) = field_text s r m
 raw_text s t r (group x f) = segments_text s t r x
 
--- the same of what the lent numbers hold: the record whose numbers are n and whose bytes are d, the segments of a pool
-abbrev pub record_segment : Settings → List ℕ → List ℕ → List ℕ → LogSegment → List ℕ
-record_segment s t n d x = segment_text s t (record_by n d) x
+-- the same of what is lent: the record that is shown by p and whose bytes are d, the segments of a pool
+abbrev pub record_segment : Settings → List ℕ → Shown → List ℕ → LogSegment → List ℕ
+record_segment s t p d x = segment_text s t (record_by p d) x
 
-abbrev pub record_segments : Settings → List ℕ → List ℕ → List ℕ → LogSegments → List ℕ
-record_segments s t n d x = segments_text s t (record_by n d) x
+abbrev pub record_segments : Settings → List ℕ → Shown → List ℕ → LogSegments → List ℕ
+record_segments s t p d x = segments_text s t (record_by p d) x
 
-abbrev pub record_raw : Settings → List ℕ → List ℕ → List ℕ → LogSegment → List ℕ
-record_raw s t n d x = raw_text s t (record_by n d) x
+abbrev pub record_raw : Settings → List ℕ → Shown → List ℕ → LogSegment → List ℕ
+record_raw s t p d x = raw_text s t (record_by p d) x
 
 unfoldable pub is_host : Source → Bool
 is_host Source.Defmt = false
@@ -47,9 +48,9 @@ is_host Source.Host = true
 unfoldable pub bare_message : Record → Bool
 bare_message r = is_host r.source || is_there (comparison_of r)
 
--- the same by what the lent numbers hold
-unfoldable pub bare_by : List ℕ → Bool
-bare_by n = is_host (source_by n) || has_comparison n
+-- the same by what is lent
+unfoldable pub bare_by : Shown → Bool
+bare_by p = is_host (source_by p) || has_comparison p
 
 -- where messages are bare or not
 unfoldable pub bare_from : Bool → LogMetadata → Bool

@@ -3,21 +3,18 @@ use Prim.Native.Nat.{ℕ, ◌+◌, ◌-◌, ◌*◌, ◌≤◌, ◌<◌, min}
 use mathlib.Core.Path.{◌≡◌, ap}
 use mathlib.Core.List.{List, [], ◌∷◌}
 use native.Mathlib.Omega.{arith}
-use lib.ListN.{length, get_or}
-use Rattle.buffer.specs.Bytes.{part}
-use Rattle.buffer.proofs.Parts.{part_step}
+use lib.ListN.{length, get_or, drop, drop_of_length-le}
+use Rattle.buffer.proofs.Parts.{drop_step}
 use Rattle.runs.specs.Runs.{decimal}
-use Rattle.runs.proofs.Matching.{part_none}
 
 -- v is what the digit at i says
-pub decimal_on : (n : ℕ) (t : List ℕ) (i e : ℕ) → i < e → e ≤ length t → (v : ℕ) → v ≡ get_or t i 0 - 0x30
-    → decimal n (part i e t) ≡ decimal (n * 10 + v) (part (i + 1) e t)
+pub decimal_on : (n : ℕ) (w : List ℕ) (i v : ℕ) → i < length w → v ≡ get_or w i 0 - 0x30 → decimal n (drop i w) ≡ decimal (n * 10 + v) (drop (i + 1) w)
 unfolding decimal
-decimal_on n t i e h g v q = rw q (ap (decimal n) (part_step t i e h g))
+decimal_on n w i v h q = rw q (ap (decimal n) (drop_step w i h))
 
-pub decimal_end : (n : ℕ) (t : List ℕ) (i e : ℕ) → e ≤ i → decimal n (part i e t) ≡ n
+pub decimal_end : (n : ℕ) (w : List ℕ) (i : ℕ) → length w ≤ i → decimal n (drop i w) ≡ n
 unfolding decimal
-decimal_end n t i e h = ap (decimal n) (part_none t i e h)
+decimal_end n w i h = ap (decimal n) (drop_of_length-le w h)
 
 -- one digit more never makes the number less
 pub decimal_grows : (n : ℕ) (w : List ℕ) → n ≤ decimal n w

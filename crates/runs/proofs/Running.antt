@@ -1,11 +1,16 @@
 -- Laws of a byte at a place and of runs, one for each case: what is left of a run is e - i. Assumes nothing.
 use Prim.Native.Nat.{ℕ, zero, suc, ◌+◌, ◌-◌, ◌≤◌, ◌<◌}
-use mathlib.Core.Path.{◌≡◌, refl}
-use mathlib.Core.Bool.{Bool, true, false, ◌&&◌}
+use mathlib.Core.Path.{◌≡◌, refl, ap, ◌∙◌}
+use mathlib.Core.Bool.{Bool, true, false, cond, ◌&&◌}
 use mathlib.Core.List.{List}
 use native.Mathlib.Omega.{arith}
 use lib.Dec.{eqb, ltb}
-use lib.ListN.{get_or}
+use native.Mathlib.Nat.{add-zero}
+use lib.ListN.{length, get_or, take, drop}
+use Rattle.std.specs.List.{prefix_len, take_while}
+use Rattle.std.proofs.lemmas.List.Folds.{length-prefix_len}
+use Rattle.buffer.specs.Bytes.{part}
+use Rattle.buffer.proofs.Parts.{drop_step}
 use borrow.Author.Tests.{eq-eqb, ne_eqb, lt-ltb, le-ltb, ltb-true, eqb-true}
 use Rattle.runs.specs.Runs.{stands, run_end}
 
@@ -77,3 +82,19 @@ run_past passes t (suc n) i =
 -- where a run ends lies between its two ends
 pub run_within : (passes : ℕ → Bool) (t : List ℕ) (e i : ℕ) → i ≤ e → (i ≤ run_end passes t (e - i) i) × (run_end passes t (e - i) i ≤ e)
 run_within passes t e i h = let g = run_past passes t (e - i) i in omega arith
+
+-- from a place on: how many bytes pass before the first that doesn't
+leads : (passes : ℕ → Bool) (t : List ℕ) (n i : ℕ) → i + n ≤ length t → i + prefix_len passes (take n (drop i t)) ≡ run_end passes t n i
+unfolding run_end
+leads passes t zero i h = add-zero i
+leads passes t (suc n) i h =
+    ap (λ (w : List ℕ). i + prefix_len passes (take (suc n) w)) (drop_step t i (omega arith)) ∙ turn (passes (get_or t i 0)) (leads passes t n (i + 1) (omega arith))
+  where
+    turn : (b : Bool) → i + 1 + prefix_len passes (take n (drop (i + 1) t)) ≡ run_end passes t n (i + 1)
+        → i + cond b (1 + prefix_len passes (take n (drop (i + 1) t))) 0 ≡ elim b [ true ↦ run_end passes t n (i + 1) | false ↦ i ]
+    turn true e = omega arith
+    turn false e = add-zero i
+
+-- what the library's `take_while` takes of a part ends where the run does
+pub run_lead : (passes : ℕ → Bool) (t : List ℕ) (i e : ℕ) → i ≤ e → e ≤ length t → i + length (take_while passes (part i e t)) ≡ run_end passes t (e - i) i
+run_lead passes t i e h g = ap (λ (n : ℕ). i + n) (length-prefix_len passes (part i e t)) ∙ leads passes t (e - i) i (omega arith)

@@ -15,11 +15,6 @@ letter b = within (byte "A" to byte "Z") b || within (byte "a" to byte "z") b ||
 unfoldable pub digit : ℕ → Bool
 digit b = within (byte "0" to byte "9") b
 
--- what a run is made of: letters, or else digits
-abbrev pub made_of : Bool → ℕ → Bool
-made_of true = letter
-made_of false = digit
-
 -- the letter in lower case, any other byte as it is
 unfoldable pub lower : ℕ → ℕ
 lower b = elim (within (byte "A" to byte "Z") b) [ true ↦ b + 0x20 | false ↦ b ]

@@ -1,4 +1,4 @@
--- Laws of the search that only code needs: tests of a byte, texts without byte 27, padding. Assumes nothing.
+-- Laws of the search that only code needs: texts without byte 27, padding. Assumes nothing.
 use mathlib.Core.Path.{◌≡◌, refl, ap, sym, subst, ◌∙◌}
 use mathlib.Core.Bool.{Bool, true, false}
 use mathlib.Core.List.{List}
@@ -19,32 +19,6 @@ use Rattle.colour.specs.Texts.{Free}
 -- what is false does not hold
 pub never : false ≡ true → ⊥
 never e = let z : ◌≡◌ {A = ℕ} 0 1 = cc in omega arith
-
--- ---- digits and `;`
-
-pub in_semicolon : (b : ℕ) → b ≡ 0x3B → in_sequence b ≡ true
-unfolding in_sequence digit within
-in_semicolon b e = ap in_sequence e
-
-pub in_digit : (b : ℕ) → 0x30 ≤ b → b ≤ 0x39 → in_sequence b ≡ true
-unfolding in_sequence digit
-in_digit b l h = rw (within_in 0x30 0x39 b l h)
-
-pub in_below : (b : ℕ) → b < 0x30 → in_sequence b ≡ false
-unfolding in_sequence digit
-in_below b h = rw (within_below 0x30 0x39 b h, ne_eqb b 0x3B (λ e. omega arith))
-
-pub in_above : (b : ℕ) → 0x39 < b → (b ≡ 0x3B → ⊥) → in_sequence b ≡ false
-unfolding in_sequence digit
-in_above b h n = rw (within_above 0x30 0x39 b h, ne_eqb b 0x3B n)
-
--- from `0` on, where it is not `;`
-pub in_rest : (b : ℕ) → (b ≡ 0x3B → ⊥) → 0x30 ≤ b → leb b 0x39 ≡ in_sequence b
-in_rest b n l = by (leb b 0x39) refl
-  where
-    by : (x : Bool) → leb b 0x39 ≡ x → leb b 0x39 ≡ in_sequence b
-    by true e = e ∙ sym (in_digit b l (leb-true b 0x39 e))
-    by false e = e ∙ sym (in_above b (leb-false b 0x39 e) n)
 
 -- ---- texts without byte 27
 

@@ -1,1 +1,2 @@
 pub mod Resting
+pub mod Room

@@ -59,16 +59,11 @@ fn among(ending: Act, onward: State, b: u8) -> Act
 }
 
 // Whether b is a digit or `;`.
+#[tactic(auto, unfolding(colour::specs::Sequences::in_sequence, runs::specs::Runs::digit, utf8::specs::Utf8::within))]
 pub fn in_sequence(b: u8) -> bool
     ensures { result ≡ in_sequence b }
 {
-    if b == b';' {
-        return true;
-    }
-    if b < b'0' {
-        return false;
-    }
-    b <= b'9'
+    b.is_ascii_digit() || b == b';'
 }
 
 // The search after one byte more.
@@ -76,32 +71,27 @@ pub fn step(t: Scan, b: u8) -> Scan
     requires { (t.sequences + t.held + 1 < 2 ^ 62) × (t.resets + 1 < 2 ^ 62) }
     ensures { result ≡ moved (act_of t.state b) t }
 {
-    let q = t.state;
-    let a = act_of(q, b);
-    match a {
+    match act_of(t.state, b) {
         Act::Text => Scan {
             state: State::Outside,
             held: 0,
-            sequences: t.sequences,
-            resets: t.resets,
+            ..t
         },
         Act::Esc => Scan {
             state: State::Escape,
             held: 1,
-            sequences: t.sequences,
-            resets: t.resets,
+            ..t
         },
-        Act::More(p) => Scan {
-            state: p,
+        Act::More(state) => Scan {
+            state,
             held: t.held + 1,
-            sequences: t.sequences,
-            resets: t.resets,
+            ..t
         },
         Act::Done => Scan {
             state: State::Outside,
             held: 0,
             sequences: t.sequences + (t.held + 1),
-            resets: t.resets,
+            ..t
         },
         Act::Reset => Scan {
             state: State::Outside,

@@ -5,14 +5,14 @@ ghost use Rattle.colour.specs.Machine.{scan};
 ghost use Rattle.colour.specs.Sequences.{esc};
 ghost use Rattle.colour.specs.Texts.{Free};
 ghost use Rattle.scanning.specs.Resting.{is_resting};
+ghost use Rattle.scanning.specs.Room.{Searchable};
 
 use super::step;
-use buffer::numbers::least;
 use colour::{Scan, State};
 
 // The search after the text s.
 pub fn scan_text(t: Scan, s: &[u8]) -> Scan
-    requires { (t.sequences + t.held + length s.now < 2 ^ 60) × (t.resets + length s.now < 2 ^ 60) }
+    requires { Searchable t (length s.now) }
     ensures { result ≡ scan t s.now }
 {
     // for a few bytes the blocks cost more than they save
@@ -23,43 +23,35 @@ pub fn scan_text(t: Scan, s: &[u8]) -> Scan
 }
 
 fn scan_blocks(t: Scan, s: &[u8]) -> Scan
-    requires { (t.sequences + t.held + length s.now < 2 ^ 60) × (t.resets + length s.now < 2 ^ 60) }
+    requires { Searchable t (length s.now) }
     ensures { result ≡ scan t s.now }
 {
     let mut u = t;
-    let mut i = 0;
-    while i < s.len() {
-        let e = i + least(s.len() - i, 128);
-        u = scan_block(u, &s[i..e]);
-        i = e;
+    for block in s.chunks(128) {
+        u = scan_block(u, block);
     }
     u
 }
 
 fn scan_block(t: Scan, s: &[u8]) -> Scan
-    requires s_bound { (t.sequences + t.held + length s.now < 2 ^ 60) × (t.resets + length s.now < 2 ^ 60) }
+    requires s_bound { Searchable t (length s.now) }
     requires s_len_bound { length s.now ≤ 128 }
     ensures { result ≡ scan t s.now }
 {
-    if !rests(t) {
-        return scan_bytes(t, s);
+    if rests(t) && escapes(s) == 0 {
+        return t;
     }
-    if 0 < escapes(s) {
-        return scan_bytes(t, s);
-    }
-    t
+    scan_bytes(t, s)
 }
 
 // The search after s, byte by byte.
 fn scan_bytes(t: Scan, s: &[u8]) -> Scan
-    requires { (t.sequences + t.held + length s.now < 2 ^ 60) × (t.resets + length s.now < 2 ^ 60) }
+    requires { Searchable t (length s.now) }
     ensures { result ≡ scan t s.now }
 {
     let mut u = t;
-    let mut i = 0;
-    while i < s.len() {
-        u = step(u, s[i]);
-        i += 1;
+    for &b in s {
+        u = step(u, b);
     }
     u
 }
@@ -68,36 +60,18 @@ fn scan_bytes(t: Scan, s: &[u8]) -> Scan
 pub fn rests(t: Scan) -> bool
     ensures { result ≡ is_resting t.state t.held }
 {
-    let q = t.state;
-    match q {
-        State::Outside => t.held == 0,
-        State::Escape => false,
-        State::Bracket => false,
-        State::LoneZero => false,
-        State::Digits => false,
-    }
+    matches!(t.state, State::Outside) && t.held == 0
 }
 
 // Counts the bytes 27; only that there is none is promised. The counter is one byte wide, so that the compiler counts many bytes
-// in one step; the text has 128 at most, so that it does not wrap.
+// in one step, as in characters (b); the text has 128 at most, so that it does not wrap.
 fn escapes(s: &[u8]) -> u8
     requires { length s.now ≤ 128 }
     ensures { result ≡ 0 → Free s.now }
 {
     let mut count: u8 = 0;
-    let mut i = 0;
-    while i < s.len() {
-        count += is_escape(s[i]);
-        i += 1;
+    for &b in s {
+        count += u8::from(b == 27);
     }
     count
-}
-
-fn is_escape(b: u8) -> u8
-    ensures { (result ≤ 1) × (result ≡ 0 → b ≡ esc → ⊥) }
-{
-    if b == 27 {
-        return 1;
-    }
-    0
 }

@@ -6,9 +6,10 @@ use native.Mathlib.Omega.{arith}
 use native.Mathlib.Decide.{dec_lt}
 use borrow.Author.Tests.{eq-eqb, ne_eqb, le-leb, lt-leb}
 use Rattle.words.specs.declared.LogMetadata.{LogMetadata}
+use Rattle.segments.specs.declared.Cell.{Cell}
 use Rattle.segments.specs.declared.Kind.{Kind}
 use Rattle.segments.specs.Segments.{LogSegment, LogSegments, text, specifier, group, none, ◌and_then◌}
-use Rattle.segments.specs.Pool.{cell, kind_at, format_at, stored_colour, stored_styles, stored_width, stored_alignment, stored_padding, link_below, back, last_member, chain_by, segment_as, segment_by, segment_below, segment_at, chain_at}
+use Rattle.segments.specs.Pool.{cell, kind_at, format_at, link_below, back, last_link, last_member, chain_by, segment_as, segment_by, segment_below, segment_at, chain_at}
 
 -- ---- links
 
@@ -23,53 +24,45 @@ link_lost i l h = rw (lt-leb l i h, link_below)
 link_below_lem : (i l : ℕ) → link_below i l ≤ i
 link_below_lem i l = elim (dec_lt i l) [ yes h ↦ omega (arith, link_lost i l h) | no h ↦ omega (arith, link_kept i l (omega arith)) ]
 
-pub back_below : (cells : List ℕ) (i : ℕ) → back cells i ≤ i
+pub back_below : (cells : List Cell) (i : ℕ) → back cells i ≤ i
 unfolding back
-back_below cells i = link_below_lem i (cell cells i 3)
+back_below cells i = link_below_lem i (cell cells i).link
 
-pub last_below : (cells : List ℕ) (i : ℕ) → last_member cells i ≤ i
+pub last_below : (cells : List Cell) (i : ℕ) → last_member cells i ≤ i
 unfolding last_member
-last_below cells i = link_below_lem i (cell cells i 1)
+last_below cells i = link_below_lem i (last_link (kind_at cells i))
 
--- ---- two pools that hold the same numbers at a place
+-- ---- two pools that hold the same at a place
 
-abbrev pub Same : List ℕ → List ℕ → ℕ → Type 0
-Same p q i = (k : ℕ) → k < 8 → cell p i k ≡ cell q i k
+abbrev pub Same : List Cell → List Cell → ℕ → Type 0
+Same p q i = cell p i ≡ cell q i
 
-module _ (p q : List ℕ) (i : ℕ) (e : Same p q i) where
+module _ (p q : List Cell) (i : ℕ) (e : Same p q i) where
   pub same_kind : kind_at p i ≡ kind_at q i
   unfolding kind_at
-  same_kind =
-      let a : cell p i 0 ≡ cell q i 0 = e 0 (omega arith) in
-      let b : cell p i 1 ≡ cell q i 1 = e 1 (omega arith) in
-      rw (a, b)
+  same_kind = ap (λ (c : Cell). c.kind) e
 
   pub same_format : format_at p i ≡ format_at q i
   unfolding format_at
-  same_format =
-      let a : cell p i 4 ≡ cell q i 4 = e 4 (omega arith) in
-      let b : cell p i 5 ≡ cell q i 5 = e 5 (omega arith) in
-      let c : cell p i 6 ≡ cell q i 6 = e 6 (omega arith) in
-      let d : cell p i 7 ≡ cell q i 7 = e 7 (omega arith) in
-      λ j. record { width = stored_width (c j); color = stored_colour (a j); styles = stored_styles (b j); alignment = stored_alignment (d j); padding = stored_padding (d j) }
+  same_format = ap (λ (c : Cell). c.format) e
 
   pub same_back : back p i ≡ back q i
   unfolding back
-  same_back = ap (link_below i) (e 3 (omega arith))
+  same_back = ap (λ (c : Cell). link_below i c.link) e
 
   pub same_last : last_member p i ≡ last_member q i
   unfolding last_member
-  same_last = ap (link_below i) (e 1 (omega arith))
+  same_last = ap (λ (k : Kind). link_below i (last_link k)) same_kind
 
   same_as : (s : LogSegments) (k : Kind) → segment_as p i s k ≡ segment_as q i s k
   unfolding segment_as
-  same_as s Kind.Text = let a : cell p i 1 ≡ cell q i 1 = e 1 (omega arith) in let b : cell p i 2 ≡ cell q i 2 = e 2 (omega arith) in λ j. text (a j) (b j)
-  same_as s Kind.Group = ap (group s) same_format
+  same_as s (Kind.Text from to) = refl
+  same_as s (Kind.Group last) = ap (group s) same_format
   same_as s (Kind.Specifier m) = ap (specifier m) same_format
 
 -- ---- members along their links
 
-module _ (at : ℕ → LogSegment) (p : List ℕ) where
+module _ (at : ℕ → LogSegment) (p : List Cell) where
   chain_at_lem : (b l : ℕ) → l ≡ b + 1 → chain_by at p (suc b) l ≡ chain_by at p b (back p b) and_then at b
   unfolding chain_by
   chain_at_lem b l e = rw (eq-eqb l (b + 1) e, chain_by)
@@ -87,7 +80,7 @@ module _ (at : ℕ → LogSegment) (p : List ℕ) where
   ]
 
 -- only the segments and the links below the bound matter
-chain_of : (f g : ℕ → LogSegment) (p q : List ℕ) (b l : ℕ) → ((i : ℕ) → i < b → f i ≡ g i) → ((i : ℕ) → i < b → back p i ≡ back q i) → chain_by f p b l ≡ chain_by g q b l
+chain_of : (f g : ℕ → LogSegment) (p q : List Cell) (b l : ℕ) → ((i : ℕ) → i < b → f i ≡ g i) → ((i : ℕ) → i < b → back p i ≡ back q i) → chain_by f p b l ≡ chain_by g q b l
 unfolding chain_by
 chain_of f g p q zero l h r = refl
 chain_of f g p q (suc b) l h r = elim (dec_lt b l) [
@@ -106,7 +99,7 @@ chain_of f g p q (suc b) l h r = elim (dec_lt b l) [
 
 -- ---- segments
 
-by_same : (f g : ℕ → LogSegment) (p q : List ℕ) (i : ℕ) → Same p q i → ((j : ℕ) → j < i → f j ≡ g j) → ((j : ℕ) → j < i → back p j ≡ back q j) → segment_by f p i ≡ segment_by g q i
+by_same : (f g : ℕ → LogSegment) (p q : List Cell) (i : ℕ) → Same p q i → ((j : ℕ) → j < i → f j ≡ g j) → ((j : ℕ) → j < i → back p j ≡ back q j) → segment_by f p i ≡ segment_by g q i
 unfolding segment_by
 by_same f g p q i e h r =
     ap (segment_as p i (chain_by f p i (last_member p i))) (same_kind p q i e)
@@ -114,15 +107,15 @@ by_same f g p q i e h r =
     ∙ ap (λ (s : LogSegments). segment_as p i s (kind_at q i)) (chain_of f g p q i (last_member q i) h r)
     ∙ same_as p q i e (chain_by g q i (last_member q i)) (kind_at q i)
 
-below_at : (p : List ℕ) (b i : ℕ) → i ≡ b → segment_below p (suc b) i ≡ segment_by (segment_below p b) p b
+below_at : (p : List Cell) (b i : ℕ) → i ≡ b → segment_below p (suc b) i ≡ segment_by (segment_below p b) p b
 unfolding segment_below
 below_at p b i e = rw (eq-eqb i b e, segment_below)
 
-below_up : (p : List ℕ) (b i : ℕ) → (i ≡ b → ⊥) → segment_below p (suc b) i ≡ segment_below p b i
+below_up : (p : List Cell) (b i : ℕ) → (i ≡ b → ⊥) → segment_below p (suc b) i ≡ segment_below p b i
 unfolding segment_below
 below_up p b i e = rw (ne_eqb i b e, segment_below)
 
-below_same : (p q : List ℕ) (b i : ℕ) → i < b → ((j : ℕ) → j < b → Same p q j) → segment_below p b i ≡ segment_below q b i
+below_same : (p q : List Cell) (b i : ℕ) → i < b → ((j : ℕ) → j < b → Same p q j) → segment_below p b i ≡ segment_below q b i
 below_same p q zero i h e = absurd (let z : ⊥ = omega arith in z)
 below_same p q (suc b) i h e = elim (dec_lt i b) [
   | yes g ↦ below_up p b i (λ z. omega arith) ∙ below_same p q b i g (λ j w. e j (omega arith)) ∙ sym (below_up q b i (λ z. omega arith))
@@ -133,17 +126,17 @@ below_same p q (suc b) i h e = elim (dec_lt i b) [
       ∙ sym (below_at q b i s)
 ]
 
--- the segment at a place depends on the numbers up to that place only
-pub same_segment : (p q : List ℕ) (i : ℕ) → ((j : ℕ) → j ≤ i → Same p q j) → segment_at p i ≡ segment_at q i
+-- the segment at a place depends on what stands up to that place only
+pub same_segment : (p q : List Cell) (i : ℕ) → ((j : ℕ) → j ≤ i → Same p q j) → segment_at p i ≡ segment_at q i
 unfolding segment_at
 same_segment p q i e = below_same p q (suc i) i (omega arith) (λ j h. e j (omega arith))
 
-pub same_chain : (p q : List ℕ) (l : ℕ) → ((j : ℕ) → j < l → Same p q j) → chain_at p l ≡ chain_at q l
+pub same_chain : (p q : List Cell) (l : ℕ) → ((j : ℕ) → j < l → Same p q j) → chain_at p l ≡ chain_at q l
 unfolding chain_at
 same_chain p q l e =
     chain_of (segment_at p) (segment_at q) p q l l (λ i h. same_segment p q i (λ j g. e j (omega arith))) (λ i h. same_back p q i (e i h))
 
-module _ (p : List ℕ) where
+module _ (p : List Cell) where
   below_is : (b i : ℕ) → i < b → segment_below p b i ≡ segment_at p i
   unfolding segment_at
   below_is zero i h = absurd (let z : ⊥ = omega arith in z)
@@ -171,11 +164,11 @@ module _ (p : List ℕ) where
       ∙ ap (λ (s : LogSegments). segment_as p i s (kind_at p i))
       (chain_of (segment_below p i) (segment_at p) p p i (last_member p i) (below_is i) (λ j h. refl) ∙ chain_less (segment_at p) p i (last_member p i) (last_below p i))
 
-  pub segment_text_lem : (i : ℕ) → kind_at p i ≡ Kind.Text → segment_at p i ≡ text (cell p i 1) (cell p i 2)
+  pub segment_text_lem : (i : ℕ) {from to : ℕ} → kind_at p i ≡ Kind.Text from to → segment_at p i ≡ text from to
   unfolding segment_as
   segment_text_lem i k = segment_is i ∙ ap (segment_as p i (chain_at p (last_member p i))) k
 
-  pub segment_group : (i : ℕ) → kind_at p i ≡ Kind.Group → segment_at p i ≡ group (chain_at p (last_member p i)) (format_at p i)
+  pub segment_group : (i : ℕ) {last : ℕ} → kind_at p i ≡ Kind.Group last → segment_at p i ≡ group (chain_at p (last_member p i)) (format_at p i)
   unfolding segment_as
   segment_group i k = segment_is i ∙ ap (segment_as p i (chain_at p (last_member p i))) k
 

@@ -1,25 +1,25 @@
 -- Pools that agree on their first segments: what stands below is the same in both. Assumes nothing.
-use Prim.Native.Nat.{ℕ, ◌+◌, ◌*◌, ◌≤◌, ◌<◌}
+use Prim.Native.Nat.{ℕ, ◌≤◌, ◌<◌}
 use mathlib.Core.Path.{◌≡◌, sym, ap, ◌∙◌}
 use mathlib.Core.List.{List}
 use native.Mathlib.Omega.{arith}
 use lib.ListN.{get_or, take}
 use lib.Seq.{get_or-take, take-take}
-use Rattle.segments.specs.Pool.{cell, kind_at, format_at, back, last_member, segment_at, chain_at}
+use Rattle.segments.specs.declared.Cell.{Cell}
+use Rattle.segments.specs.Pool.{no_cell, cell, kind_at, format_at, back, last_member, segment_at, chain_at}
 use Rattle.segments.proofs.Chains.{Same, same_kind, same_format, same_back, same_last, same_segment, same_chain}
 
-pub front_trans : (p q r : List ℕ) (n : ℕ) → take (8 * n) p ≡ take (8 * n) q → take (8 * n) q ≡ take (8 * n) r → take (8 * n) p ≡ take (8 * n) r
+pub front_trans : (p q r : List Cell) (n : ℕ) → take n p ≡ take n q → take n q ≡ take n r → take n p ≡ take n r
 front_trans p q r n e f = e ∙ f
 
-module _ (p q : List ℕ) (n : ℕ) (e : take (8 * n) p ≡ take (8 * n) q) where
-  pub front_less : (m : ℕ) → m ≤ n → take (8 * m) p ≡ take (8 * m) q
+module _ (p q : List Cell) (n : ℕ) (e : take n p ≡ take n q) where
+  pub front_less : (m : ℕ) → m ≤ n → take m p ≡ take m q
   front_less m h =
-      sym (take-take (8 * m) (8 * n) p (omega arith)) ∙ ap (take (8 * m)) e ∙ take-take (8 * m) (8 * n) q (omega arith)
+      sym (take-take m n p h) ∙ ap (take m) e ∙ take-take m n q h
 
   pub cell_front : (i : ℕ) → i < n → Same p q i
   unfolding cell
-  cell_front i h k g =
-      sym (get_or-take (8 * n) p (8 * i + k) 0 (omega arith)) ∙ ap (λ (l : List ℕ). get_or l (8 * i + k) 0) e ∙ get_or-take (8 * n) q (8 * i + k) 0 (omega arith)
+  cell_front i h = sym (get_or-take n p i no_cell h) ∙ ap (λ (l : List Cell). get_or l i no_cell) e ∙ get_or-take n q i no_cell h
 
   pub kind_front : (i : ℕ) → i < n → kind_at p i ≡ kind_at q i
   kind_front i h = same_kind p q i (cell_front i h)

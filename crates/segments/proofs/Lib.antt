@@ -1,5 +1,5 @@
+-- Laws that the layers above cite.
 pub mod Joining
 pub mod Chains
 pub mod Fronts
 pub mod Growing
-pub mod Codes

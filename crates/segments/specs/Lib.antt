@@ -1,4 +1,3 @@
-pub mod Coding
 pub mod Computing
 pub mod Pool
 pub mod Segments

@@ -1,6 +1,5 @@
 -- Scaffolding, for proofs alone: how many segments there are, how deep groups stand, and how wide they ask to be: what keeps a line's length within bounds. Assumes nothing.
-use Rattle.std.specs.Prelude.{ℕ, zero, suc, ◌+◌, ◌≤◌}
-use Rattle.words.specs.declared.Width.{Width}
+use Rattle.std.specs.Prelude.{ℕ, zero, suc, ◌+◌, ◌≤◌, Option, Some, None}
 use Rattle.segments.specs.Segments.{LogSegment, LogSegments, text, specifier, group, none, more}
 
 -- the number of segments, groups and their members both
@@ -15,9 +14,9 @@ unfoldable mutual
   sizes (more x rest) = size x + sizes rest
 
 -- a width of 512 at most
-abbrev pub Narrow : Width → Type 0
-Narrow Width.Default = Unit {0}
-Narrow (Width.Given n) = n ≤ 512
+abbrev pub Narrow : Option ℕ → Type 0
+Narrow None = Unit {0}
+Narrow (Some n) = n ≤ 512
 
 -- groups stand d deep at most, and each width is 512 at most
 abbrev mutual

@@ -1,37 +1,48 @@
--- The walk along a sheet's records, and a session as their lines. Assumes nothing.
+-- The records of a sheet, one after the other, and a session as their lines. Assumes nothing.
 use mathlib.Core.Path.{◌≡◌, refl, ap, sym, subst, ◌∙◌}
 use mathlib.Core.Bool.{Bool, true, false}
-use mathlib.Core.List.{List, [], ◌++◌}
+use mathlib.Core.List.{List, [], ◌∷◌, ◌++◌}
 use Prim.Native.Nat.{ℕ, zero, suc, ◌+◌, ◌-◌, ◌≤◌, ◌<◌}
 use native.Mathlib.Omega.{arith}
-use lib.ListN.{length, get_or, length-append}
+use lib.ListN.{length, length-append}
 use Rattle.buffer.specs.Buffer.{put_at}
 use Rattle.buffer.proofs.Writing.{put_put}
 use Rattle.buffer.specs.Bytes.{part}
 use Rattle.buffer.specs.Table.{some}
 use Rattle.refusals.specs.declared.Refusal.{Refusal}
 use Rattle.refusals.specs.Numbers.{value_with}
+use Rattle.segments.specs.declared.Cell.{Cell}
 use Rattle.segments.specs.Segments.{LogSegments}
 use Rattle.template.specs.declared.Edition.{Edition}
 use Rattle.template.specs.Template.{Template, read, refusal, read_by}
 use Rattle.record.specs.declared.Form.{Form}
 use Rattle.record.specs.Layout.{u32, right_size, laid_out}
-use Rattle.sheet.specs.Sheets.{Sheet, body_count, contents_end, bodies_from, is_sheet, sheet_of, all_laid_out}
-use Rattle.sheet.proofs.Standing.{stands, sheet_some, sheet_none}
-use Rattle.sheet.proofs.Walk.{Left, next_fits, next_left, records_left}
+use Rattle.sheet.specs.Sheets.{Sheet, body_count, contents_end, bodies_from, are_records, is_sheet, sheet_of, all_laid_out}
+use Rattle.sheet.proofs.Standing.{both_true, stands, sheet_some, sheet_none}
+use Rattle.sheet.proofs.Walk.{Left, next_fits, next_left, bodies_next, bodies_end}
 use Rattle.sheet.proofs.Heads.{head_of, sheet_held}
-use Rattle.colour.specs.declared.Settings.{Settings}
-use Rattle.template.specs.declared.Parsed.{Parsed}
+use Rattle.std.specs.Prelude.{Result, Ok, Err, None, Some}
+use Rattle.std.proofs.lemmas.Option.{none-some, same_Some}
+use Rattle.std.specs.Bool.{then_some}
 use Rattle.template.specs.Parsing.{tell_parsed, ReadKeeps, ParsedKeeps}
 use Rattle.segments.specs.Pool.{chain_at}
-use Rattle.session.specs.declared.Opened.{Opened}
-use Rattle.session.specs.declared.walking.Walk.{Walk}
+use Rattle.answer.specs.declared.Reading.{Reading}
+use Rattle.answer.specs.Rooms.{Asked, outcome_by}
 use Rattle.answer.specs.Answers.{line, refused, in_room, record_outcome}
 use Rattle.settings.specs.Bits.{is_known, settings_of, edition_of}
-use Rattle.outcomes.proofs.Answered.{outcome_most}
 use Rattle.template.proofs.Refusing.{read_short, refused_by, small_value}
 use Rattle.outcomes.specs.Program.{line_room, outcome_line, record_lines, sheet_text, maybe_sheet_text, session_text, fitting, session_outcome, refusal_line, as_output, output}
-use Rattle.session.specs.Walking.{opened_by, opening, tell_opened, OpenedKeeps, settings_in, form_by, template_in, records_from, Ready, Lies, walk_from, walk_on, Standing, outcome_at, line_at, lines_from, lines_left, all_lines}
+use Rattle.session.specs.Walking.{opened_by, opening, tell_opened, OpenedKeeps, Reads, settings_in, form_by, template_in, records_from, records_of, Ready, Standing, Served, lines_from, lines_by, all_lines}
+
+-- ---- what `sheet_in` answers
+
+pub no_sheet : (d : List ℕ) (b : Bool) → then_some b d ≡ None → b ≡ false
+no_sheet d true e = absurd (none-some d (sym e))
+no_sheet d false e = refl
+
+pub its_sheet : (d s : List ℕ) (b : Bool) → then_some b d ≡ Some s → d ≡ s
+its_sheet d s true e = same_Some d s e
+its_sheet d s false e = absurd (none-some s e)
 
 -- ---- a sheet that is one
 
@@ -61,78 +72,78 @@ headed_at d e =
       short = s.short;
     }
 
--- ---- the walk
+-- ---- its records, one after the other
 
-at_first : (d : List ℕ) → is_sheet d ≡ true → Standing d (walk_from d)
-unfolding walk_from records_from
+at_first : (d : List ℕ) → is_sheet d ≡ true → Standing (body_count d - 1) d 6 (records_from d)
+unfolding records_from
 at_first d e =
     let h = head_of d (body_count d - 1) (one_more d e) e in
-    let s = stands d e in
-    record {
-      few = omega (arith, h.left.lengths, s.short);
-      lengths = omega (arith, h.left.lengths);
-      whole = h.left.whole;
-      records = h.records;
-    }
+    record { lengths = omega (arith, h.left.lengths); whole = h.left.whole }
 
 -- in the numbers that the code has
-pub begins : (d : List ℕ) → is_sheet d ≡ true → (count from : ℕ) → count ≡ body_count d → from ≡ records_from d → (w : Walk)
-    → w ≡ record { left = count - 1; i = 6; j = from } → (w ≡ walk_from d) × Standing d w
-unfolding walk_from
-begins d sheet count from p q w r =
-    let e : w ≡ walk_from d = r ∙ (λ k. record { left = p k - 1; i = 6; j = q k }) in
-    (e, subst (Standing d) (sym e) (at_first d sheet))
+module _ (d : List ℕ) (count from : ℕ) (p : count ≡ body_count d) (q : from ≡ records_from d) where
+  pub begins : is_sheet d ≡ true → Standing (count - 1) d 6 from
+  begins e = subst (λ (m : ℕ). Standing (m - 1) d 6 from) (sym p) (subst (λ (j : ℕ). Standing (body_count d - 1) d 6 j) (sym q) (at_first d e))
 
-pub lines_all : (d : List ℕ) (s : LogSegments) (w : Walk) → w ≡ walk_from d → lines_left d s w ≡ all_lines d s
-unfolding walk_from all_lines
-lines_all d s w e = ap (lines_left d s) e
+  pub begins_all : bodies_from (count - 1) d 6 from ≡ records_of d
+  unfolding records_of
+  begins_all = λ k. bodies_from (p k - 1) d 6 (q k)
 
-module _ (d : List ℕ) (w : Walk) (more : 0 < w.left) where
-  one_less : w.left ≡ suc (w.left - 1)
-  one_less = omega (arith, more)
+module _ (left : ℕ) (d : List ℕ) (i j : ℕ) where
+  pub stands_at_end : left < 1 → bodies_from left d i j ≡ []
+  stands_at_end h = bodies_end left d i j (omega (arith, h))
 
-  module _ (at : Standing d w) where
-    left : Left w.left d w.i w.j
-    left = record { lengths = omega (arith, at.lengths); whole = at.whole }
+  module _ (more : 1 ≤ left) (at : Standing left d i j) where
+    one_less : left ≡ suc (left - 1)
+    one_less = omega (arith, more)
 
-    pub next_lies : Lies d w.i w.j
-    next_lies =
-        let f = next_fits w.left (w.left - 1) d w.i w.j one_less left in
-        record { length_fits = f.0; body_fits = f.1; size = (records_left w.left (w.left - 1) d w.i w.j one_less (form_by d) at.records).0 }
+    its_left : Left left d i j
+    its_left = record { lengths = at.lengths; whole = at.whole }
 
-    at_next : Standing d (walk_on d w)
-    unfolding walk_on
-    at_next =
-        let n = next_left w.left (w.left - 1) d w.i w.j one_less left in
-        record {
-          few = omega (arith, at.few);
-          lengths = omega (arith, n.lengths);
-          whole = n.whole;
-          records = (records_left w.left (w.left - 1) d w.i w.j one_less (form_by d) at.records).1;
-        }
+    pub record_fits : (i + 4 ≤ length d) × (j + u32 d i ≤ length d)
+    record_fits = next_fits left (left - 1) d i j one_less its_left
 
-    pub goes_on_lem : (size : ℕ) → size ≡ u32 d w.i → (r : Walk) → r ≡ record { left = w.left - 1; i = w.i + 4; j = w.j + size } → (r ≡ walk_on d w) × Standing d r
-    unfolding walk_on
-    goes_on_lem size p r q =
-        let e : r ≡ walk_on d w = q ∙ (λ k. record { left = w.left - 1; i = w.i + 4; j = w.j + p k }) in
-        (e, subst (Standing d) (sym e) at_next)
+    module _ (size : ℕ) (e : size ≡ u32 d i) where
+      pub next_stands : Standing (left - 1) d (i + 4) (j + size)
+      next_stands =
+          let n = next_left left (left - 1) d i j one_less its_left in
+          subst (λ (k : ℕ). Standing (left - 1) d (i + 4) (j + k)) (sym e) (record { lengths = n.lengths; whole = n.whole })
 
-  module _ (r : Walk) (on : r ≡ walk_on d w) where
-    pub fewer : r.left < w.left
-    unfolding walk_on
-    fewer = omega (arith, ap (λ (x : Walk). x.left) on)
+      pub next_is : bodies_from left d i j ≡ part j (j + size) d ∷ bodies_from (left - 1) d (i + 4) (j + size)
+      next_is =
+          bodies_next left (left - 1) d i j one_less
+          ∙ ap (λ (k : ℕ). part j (j + k) d ∷ bodies_from (left - 1) d (i + 4) (j + k)) (sym e)
 
-    pub lines_then : (s : LogSegments) → lines_left d s w ≡ line_at d s w.i w.j ++ lines_left d s r
-    unfolding lines_from walk_on
-    lines_then s =
-        ap (λ (n : ℕ). lines_from n d s w.i w.j) one_less ∙ ap (λ (x : Walk). line_at d s w.i w.j ++ lines_left d s x) (sym on)
+count_of : (m : ℕ) (d : List ℕ) (i j : ℕ) → length (bodies_from m d i j) ≡ m
+unfolding bodies_from
+count_of zero d i j = refl
+count_of (suc m) d i j = ap suc (count_of m d (i + 4) (j + u32 d i))
 
-    pub lines_count : (s : LogSegments) → length (lines_left d s w) ≡ length (line_at d s w.i w.j) + length (lines_left d s r)
-    lines_count s = ap length (lines_then s) ∙ length-append (line_at d s w.i w.j) (lines_left d s r)
+pub few : (d : List ℕ) → is_sheet d ≡ true → length (records_of d) ≤ 65535
+unfolding records_of
+few d e =
+    let h = at_first d e in
+    let s = stands d e in
+    omega (arith, count_of (body_count d - 1) d 6 (records_from d), h.lengths, s.short)
 
-pub lines_end : (d : List ℕ) (s : LogSegments) (w : Walk) → w.left ≡ 0 → lines_left d s w ≡ []
-unfolding lines_from
-lines_end d s w e = ap (λ (n : ℕ). lines_from n d s w.i w.j) e
+-- ---- one record and the others, of those that a reading serves
+
+module _ (r : Reading) (records : List (List ℕ)) where
+  module _ (x : List ℕ) (rest : List (List ℕ)) (e : records ≡ x ∷ rest) where
+    pub served_more : Served r records → Asked r x × Served r rest
+    unfolding Served
+    served_more h = subst (Served r) e h
+
+    pub lines_more : lines_by r records ≡ outcome_line (outcome_by r x line_room) ++ lines_by r rest
+    unfolding lines_from
+    lines_more = ap (lines_by r) e
+
+    pub lines_count : length (lines_by r records) ≡ length (outcome_line (outcome_by r x line_room)) + length (lines_by r rest)
+    lines_count = ap length lines_more ∙ length-append (outcome_line (outcome_by r x line_room)) (lines_by r rest)
+
+  pub lines_end : records ≡ [] → lines_by r records ≡ []
+  unfolding lines_from
+  lines_end e = ap (lines_by r) e
 
 -- ---- the text of a session
 
@@ -141,11 +152,11 @@ abbrev sheet_in : List ℕ → Sheet
 sheet_in d = record {
   settings = settings_in d;
   template = template_in d;
-  records = all_laid_out (form_by d) (bodies_from (body_count d - 1) d 6 (records_from d));
+  records = all_laid_out (form_by d) (records_of d);
 }
 
 sheet_in_lem : (d : List ℕ) → is_sheet d ≡ true → sheet_of d ≡ some (sheet_in d)
-unfolding template_in records_from
+unfolding template_in records_of records_from
 sheet_in_lem d e = sheet_some d e ∙ ap some (sheet_held d (body_count d - 1) (one_more d e) e)
 
 pub opening_none : (d : List ℕ) → is_sheet d ≡ false → opening d ≡ refusal Refusal.NotASheet
@@ -160,17 +171,19 @@ pub opening_some : (d : List ℕ) → is_sheet d ≡ true → opening d ≡ read
 unfolding opening opened_by
 opening_some d e = ap opened_by (sheet_in_lem d e)
 
-lines_are : (d : List ℕ) (s : LogSegments) (m i j : ℕ) → record_lines (sheet_in d) s (all_laid_out (form_by d) (bodies_from m d i j)) ≡ lines_from m d s i j
-unfolding record_lines all_laid_out bodies_from lines_from line_at outcome_at
-lines_are d s zero i j = refl
-lines_are d s (suc m) i j = ap (λ (l : List ℕ). line_at d s i j ++ l) (lines_are d s m (i + 4) (j + u32 d i))
+lines_are : (d : List ℕ) (s : LogSegments) (records : List (List ℕ))
+    → record_lines (sheet_in d) s (all_laid_out (form_by d) records) ≡ lines_from (form_by d) (settings_of (settings_in d)) (template_in d) s records
+unfolding record_lines all_laid_out lines_from
+lines_are d s [] = refl
+lines_are d s (x ∷ rest) =
+    ap (λ (l : List ℕ). outcome_line (record_outcome (form_by d) (settings_of (settings_in d)) (template_in d) s (laid_out (form_by d) x) line_room) ++ l) (lines_are d s rest)
 
 pub text_lines : (d : List ℕ) (s : LogSegments) → is_sheet d ≡ true → opening d ≡ read s → session_text d ≡ line (all_lines d s)
-unfolding session_text maybe_sheet_text sheet_text all_lines
+unfolding session_text maybe_sheet_text sheet_text
 text_lines d s e r =
     ap maybe_sheet_text (sheet_in_lem d e)
     ∙ ap (sheet_text (sheet_in d)) (sym (opening_some d e) ∙ r)
-    ∙ ap line (lines_are d s (body_count d - 1) 6 (records_from d))
+    ∙ ap line (lines_are d s (records_of d))
 
 -- what comes with a refusal of the whole sheet is small
 text_refused : (d : List ℕ) (r : Refusal) (b : Bool) → is_sheet d ≡ b → opening d ≡ refusal r → (session_text d ≡ refused r) × (value_with r ≤ 1024)
@@ -185,36 +198,42 @@ text_refused d r false e o =
 
 -- ---- the bodies, as the code has them
 
-module _ (d cells t : List ℕ) (x : Edition) (r : Parsed) (sheet : is_sheet d ≡ true) (is-template : t ≡ template_in d) (is-edition : x ≡ edition_of (settings_in d))
-    (told : tell_parsed r cells ≡ read_by x t) where
+module _ (d : List ℕ) (cells : List Cell) (t : List ℕ) (x : Edition) (sheet : is_sheet d ≡ true) (is-template : t ≡ template_in d) (is-edition : x ≡ edition_of (settings_in d)) where
   reads_in : read_by x t ≡ read_in d
   reads_in = λ k. read_by (is-edition k) (is-template k)
 
-  pub opens : (n : ℕ) → 512 ≤ length cells → ParsedKeeps cells r → r ≡ Parsed.Read n → (tell_opened (Opened.Open n) cells ≡ opening d) × Ready d cells n
-  unfolding tell_opened tell_parsed
-  opens n pool keeps e =
-      let p : read (chain_at cells n) ≡ read_in d = ap (λ (x : Parsed). tell_parsed x cells) (sym e) ∙ told ∙ reads_in in
-      let k : ParsedKeeps cells (Parsed.Read n) = subst (λ (x : Parsed). ParsedKeeps cells x) e keeps in
-      (p ∙ sym (opening_some d sheet), record { sheet = sheet; pool = pool; keeps = k; short = read_short (edition_of (settings_in d)) (template_in d) (chain_at cells n) (sym p) })
+  pub opens : (r : Result ℕ Refusal) → tell_parsed r cells ≡ read_by x t → 64 ≤ length cells → ParsedKeeps cells r → (tell_opened r cells ≡ opening d) × OpenedKeeps d cells r
+  unfolding tell_opened
+  opens (Ok n) told pool keeps =
+      let p : read (chain_at cells n) ≡ read_in d = told ∙ reads_in in
+      (p ∙ sym (opening_some d sheet), record { sheet = sheet; pool = pool; keeps = keeps; short = read_short (edition_of (settings_in d)) (template_in d) (chain_at cells n) (sym p) })
+  opens (Err q) told pool keeps = (told ∙ reads_in ∙ sym (opening_some d sheet), tt)
 
-  pub refuses : (q : Refusal) → r ≡ Parsed.Refused q → tell_opened (Opened.Refused q) cells ≡ opening d
-  unfolding tell_opened tell_parsed
-  refuses q e = ap (λ (x : Parsed). tell_parsed x cells) (sym e) ∙ told ∙ reads_in ∙ sym (opening_some d sheet)
+module _ (d : List ℕ) (cells : List Cell) (n : ℕ) (r : Reading) (reads : Reads d cells n r) where
+  module _ (ready : Ready d cells n) where
+    served_right : (records : List (List ℕ)) → are_records r.form records ≡ true → Served r records
+    unfolding Served are_records
+    served_right [] e = tt
+    served_right (x ∷ rest) e =
+        let b = both_true (right_size r.form x) (are_records r.form rest) e in (
+          record {
+            pool = subst (λ (y : List Cell). 64 ≤ length y) (sym reads.pool) ready.pool;
+            read = subst (λ (y : List Cell). ReadKeeps y r.count) (sym reads.pool) (subst (ReadKeeps cells) (sym reads.count) ready.keeps);
+            template = subst (λ (y : List ℕ). length y ≤ 1024) (sym reads.template) ready.short;
+            size = b.0;
+          },
+          served_right rest b.1,
+        )
 
-module _ (d : List ℕ) (i j : ℕ) (form : Form) (t x : List ℕ) (is-form : form ≡ form_by d) (is-template : t ≡ template_in d) (is-record : x ≡ part j (j + u32 d i) d) where
-  pub asked : (cells : List ℕ) (n : ℕ) → Ready d cells n → Lies d i j
-      → (512 ≤ length cells) × (ReadKeeps cells n × ((length t ≤ 1024) × (right_size form x ≡ true)))
-  asked cells n ready there =
-      (ready.pool, (ready.keeps, (subst (λ (y : List ℕ). length y ≤ 1024) (sym is-template) ready.short, (λ k. right_size (is-form k) (is-record k)) ∙ there.size)))
+    pub served_all : Served r (records_of d)
+    unfolding records_of records_from
+    served_all =
+        let h = head_of d (body_count d - 1) (one_more d ready.sheet) ready.sheet in
+        served_right (records_of d) (ap (λ (f : Form). are_records f (records_of d)) reads.form ∙ h.records)
 
-  pub line_is : (s : LogSegments) (a : Settings) → a ≡ settings_of (settings_in d)
-      → outcome_line (record_outcome form a t s (laid_out form x) line_room) ≡ line_at d s i j
-  unfolding line_at outcome_at
-  line_is s a e = λ k. outcome_line (record_outcome (is-form k) (e k) (is-template k) s (laid_out (is-form k) (is-record k)) line_room)
-
-pub line_most : (d : List ℕ) (s : LogSegments) (i j : ℕ) → length (line_at d s i j) ≤ 65537
-unfolding line_at outcome_at
-line_most d s i j = outcome_most (form_by d) (settings_of (settings_in d)) (template_in d) s (laid_out (form_by d) (part j (j + u32 d i) d))
+  pub lines_read : lines_by r (records_of d) ≡ all_lines d (chain_at cells n)
+  lines_read =
+      λ k. lines_from (reads.form k) (reads.settings k) (reads.template k) (chain_at (reads.pool k) (reads.count k)) (records_of d)
 
 -- what is written after what is written
 pub put_then : (d d' : List ℕ) (at to : ℕ) (s t : List ℕ) → d' ≡ put_at d at s → to ≡ at + length s → at + (length s + length t) ≤ length d → put_at d' to t ≡ put_at d at (s ++ t)
@@ -222,28 +241,26 @@ put_then d d' at to s t e n h = ap (λ (x : List ℕ). put_at x to t) e ∙ put_
 
 -- ---- the whole session, by what opening the sheet answers
 
-module _ (d cells : List ℕ) (r : Opened) where
-  pub ready : (n : ℕ) → r ≡ Opened.Open n → OpenedKeeps d cells r → Ready d cells n
-  ready n e keeps = subst (λ (x : Opened). OpenedKeeps d cells x) e keeps
-
-  pub whole_read : (n : ℕ) → r ≡ Opened.Open n → tell_opened r cells ≡ opening d → Ready d cells n → (room : ℕ)
-      → session_outcome d room ≡ in_room room (all_lines d (chain_at cells n))
+module _ (d : List ℕ) (cells : List Cell) where
+  pub whole_read : (n : ℕ) → tell_opened (Ok n) cells ≡ opening d → Ready d cells n → (room : ℕ) → session_outcome d room ≡ in_room room (all_lines d (chain_at cells n))
   unfolding tell_opened session_outcome fitting
-  whole_read n e told k room =
-      ap (fitting room) (text_lines d (chain_at cells n) k.sheet (sym told ∙ ap (λ (x : Opened). tell_opened x cells) e))
+  whole_read n told k room = ap (fitting room) (text_lines d (chain_at cells n) k.sheet (sym told))
 
-  pub whole_refused : (q : Refusal) → r ≡ Opened.Refused q → tell_opened r cells ≡ opening d → (room : ℕ)
-      → (session_outcome d room ≡ refused q) × (value_with q ≤ 1024)
+  pub whole_refused : (q : Refusal) → tell_opened (Err q) cells ≡ opening d → (room : ℕ) → (session_outcome d room ≡ refused q) × (value_with q ≤ 1024)
   unfolding tell_opened session_outcome fitting
-  whole_refused q e told room =
-      let t = text_refused d q (is_sheet d) refl (sym told ∙ ap (λ (x : Opened). tell_opened x cells) e) in
+  whole_refused q told room =
+      let t = text_refused d q (is_sheet d) refl (sym told) in
       (ap (fitting room) t.0, t.1)
 
   -- the program's two ways: it writes the lines of all records, or the line of the refusal
-  pub output_read : (n : ℕ) → r ≡ Opened.Open n → tell_opened r cells ≡ opening d → Ready d cells n → output d ≡ all_lines d (chain_at cells n)
+  pub output_read : (n : ℕ) → tell_opened (Ok n) cells ≡ opening d → Ready d cells n → output d ≡ all_lines d (chain_at cells n)
   unfolding tell_opened output as_output
-  output_read n e told k = ap as_output (text_lines d (chain_at cells n) k.sheet (sym told ∙ ap (λ (x : Opened). tell_opened x cells) e))
+  output_read n told k = ap as_output (text_lines d (chain_at cells n) k.sheet (sym told))
 
-  pub output_refused : (q : Refusal) → r ≡ Opened.Refused q → tell_opened r cells ≡ opening d → output d ≡ refusal_line q
+  pub output_refused : (q : Refusal) → tell_opened (Err q) cells ≡ opening d → output d ≡ refusal_line q
   unfolding tell_opened output as_output
-  output_refused q e told = ap as_output (text_refused d q (is_sheet d) refl (sym told ∙ ap (λ (x : Opened). tell_opened x cells) e)).0
+  output_refused q told = ap as_output (text_refused d q (is_sheet d) refl (sym told)).0
+
+pub none_refused : (d : List ℕ) → is_sheet d ≡ false → (room : ℕ) → (session_outcome d room ≡ refused Refusal.NotASheet) × (value_with Refusal.NotASheet ≤ 1024)
+unfolding tell_opened
+none_refused d e room = whole_refused d [] Refusal.NotASheet (sym (opening_none d e)) room

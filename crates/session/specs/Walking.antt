@@ -1,19 +1,21 @@
--- Scaffolding, for proofs alone: the lines of a sheet by places in it, as the code walks along it. Assumes nothing.
-use Rattle.std.specs.Prelude.{ℕ, zero, suc, ◌+◌, ◌-◌, ◌*◌, ◌≤◌, ◌≡◌, true, List, [], ◌++◌, length, get_or}
+-- Scaffolding, for proofs alone: an open sheet by places in it, and the lines of its records as the code walks along them. Assumes nothing.
+use Rattle.std.specs.Prelude.{Result, Ok, Err, ℕ, ◌+◌, ◌-◌, ◌*◌, ◌≤◌, ◌≡◌, true, List, [], ◌∷◌, ◌++◌, length, get_or}
 use Rattle.buffer.specs.Bytes.{part}
 use Rattle.buffer.specs.Table.{Maybe, none, some}
 use Rattle.refusals.specs.declared.Refusal.{Refusal}
+use Rattle.segments.specs.declared.Cell.{Cell}
 use Rattle.segments.specs.Segments.{LogSegments}
 use Rattle.segments.specs.Pool.{chain_at}
 use Rattle.template.specs.Template.{Template, read, refusal, read_by}
 use Rattle.template.specs.Parsing.{ReadKeeps}
 use Rattle.record.specs.declared.Form.{Form}
-use Rattle.record.specs.Layout.{u32, right_size, laid_out}
-use Rattle.answer.specs.Answers.{Outcome, record_outcome}
+use Rattle.record.specs.Layout.{u32, laid_out}
+use Rattle.colour.specs.declared.Settings.{Settings}
+use Rattle.answer.specs.Answers.{record_outcome}
+use Rattle.answer.specs.Rooms.{Asked, segments_of}
 use Rattle.settings.specs.Bits.{settings_of, edition_of, form_of}
-use Rattle.sheet.specs.Sheets.{Sheet, body_count, contents_end, bodies_from, body_bytes, are_records, is_sheet, sheet_of}
-use Rattle.session.specs.declared.Opened.{Opened}
-use Rattle.session.specs.declared.walking.Walk.{Walk}
+use Rattle.sheet.specs.Sheets.{Sheet, body_count, contents_end, bodies_from, body_bytes, is_sheet, sheet_of}
+use Rattle.answer.specs.declared.Reading.{Reading}
 use Rattle.outcomes.specs.Program.{line_room, outcome_line}
 
 -- ---- opening a sheet
@@ -27,9 +29,9 @@ unfoldable pub opening : List ℕ → Template
 opening d = opened_by (sheet_of d)
 
 -- what the code's answer says, with the pool it has filled
-unfoldable pub tell_opened : Opened → List ℕ → Template
-tell_opened (Opened.Open n) cells = read (chain_at cells n)
-tell_opened (Opened.Refused r) cells = refusal r
+unfoldable pub tell_opened : Result ℕ Refusal → List Cell → Template
+tell_opened (Ok n) cells = read (chain_at cells n)
+tell_opened (Err r) cells = refusal r
 
 -- ---- places of an open sheet
 
@@ -50,61 +52,51 @@ unfoldable pub records_from : List ℕ → ℕ
 records_from d = contents_end d + u32 d 2
 
 -- what a sheet has whose template was read into n segments
-pub record Ready (d cells : List ℕ) (n : ℕ) : Type 0 where
+pub record Ready (d : List ℕ) (cells : List Cell) (n : ℕ) : Type 0 where
   pub sheet : is_sheet d ≡ true
-  pub pool : 512 ≤ length cells
+  pub pool : 64 ≤ length cells
   pub keeps : ReadKeeps cells n
   pub short : length (template_in d) ≤ 1024
 
-abbrev pub OpenedKeeps : List ℕ → List ℕ → Opened → Type 0
-OpenedKeeps d cells (Opened.Open n) = Ready d cells n
-OpenedKeeps d cells (Opened.Refused r) = Unit {0}
+abbrev pub OpenedKeeps : List ℕ → List Cell → Result ℕ Refusal → Type 0
+OpenedKeeps d cells (Ok n) = Ready d cells n
+OpenedKeeps d cells (Err r) = Unit {0}
 
--- a record that lies in the sheet: its length stands at place i, it begins at place j
-pub record Lies (d : List ℕ) (i j : ℕ) : Type 0 where
-  pub length_fits : i + 4 ≤ length d
-  pub body_fits : j + u32 d i ≤ length d
-  pub size : right_size (form_by d) (part j (j + u32 d i) d) ≡ true
+-- what its records' lines are made by
+pub record Reads (d : List ℕ) (cells : List Cell) (n : ℕ) (r : Reading) : Type 0 where
+  pub form : r.form ≡ form_by d
+  pub settings : r.settings ≡ settings_of (settings_in d)
+  pub template : r.template.now ≡ template_in d
+  pub pool : r.cells.now ≡ cells
+  pub count : r.count ≡ n
+
+-- its records: all bodies but body 0
+unfoldable pub records_of : List ℕ → List (List ℕ)
+records_of d = bodies_from (body_count d - 1) d 6 (records_from d)
 
 -- ---- the walk along the records
 
--- its place at the first one
-unfoldable pub walk_from : List ℕ → Walk
-walk_from d = record { left = body_count d - 1; i = 6; j = records_from d }
+-- records of a sheet, so many, whose lengths stand from place i on and which begin at place j: they and their lengths lie in it
+pub record Standing (left : ℕ) (d : List ℕ) (i j : ℕ) : Type 0 where
+  pub lengths : i + 4 * left ≤ length d
+  pub whole : j + body_bytes left d i ≡ length d
 
--- its place past the one at w
-unfoldable pub walk_on : List ℕ → Walk → Walk
-walk_on d w = record { left = w.left - 1; i = w.i + 4; j = w.j + u32 d w.i }
-
--- the records left at w are few, and reach to the sheet's end
-pub record Standing (d : List ℕ) (w : Walk) : Type 0 where
-  pub few : w.left ≤ 65535
-  pub lengths : w.i + 4 * w.left ≤ length d
-  pub whole : w.j + body_bytes w.left d w.i ≡ length d
-  pub records : are_records (form_by d) (bodies_from w.left d w.i w.j) ≡ true
+-- each of these records may be asked for its line
+unfoldable pub Served : Reading → List (List ℕ) → Type 0
+Served r [] = Unit {0}
+Served r (body ∷ rest) = Asked r body × Served r rest
 
 -- ---- what is written
 
-unfoldable pub outcome_at : List ℕ → LogSegments → ℕ → ℕ → Outcome
-outcome_at d s i j = record_outcome (form_by d) (settings_of (settings_in d)) (template_in d) s (laid_out (form_by d) (part j (j + u32 d i) d)) line_room
+-- the lines of these records, one after the other
+unfoldable pub lines_from : Form → Settings → List ℕ → LogSegments → List (List ℕ) → List ℕ
+lines_from form settings t s [] = []
+lines_from form settings t s (body ∷ rest) = outcome_line (record_outcome form settings t s (laid_out form body) line_room) ++ lines_from form settings t s rest
 
--- the line of one record
-unfoldable pub line_at : List ℕ → LogSegments → ℕ → ℕ → List ℕ
-line_at d s i j = outcome_line (outcome_at d s i j)
+-- made as a reading says
+abbrev pub lines_by : Reading → List (List ℕ) → List ℕ
+lines_by r records = lines_from r.form r.settings r.template.now (segments_of r) records
 
--- the lines of m records
-unfoldable pub lines_from : ℕ → List ℕ → LogSegments → ℕ → ℕ → List ℕ
-lines_from zero d s i j = []
-lines_from (suc m) d s i j = line_at d s i j ++ lines_from m d s (i + 4) (j + u32 d i)
-
--- the lines of the records that are left at w
-abbrev pub lines_left : List ℕ → LogSegments → Walk → List ℕ
-lines_left d s w = lines_from w.left d s w.i w.j
-
--- the lines of all records
-unfoldable pub all_lines : List ℕ → LogSegments → List ℕ
-all_lines d s = lines_from (body_count d - 1) d s 6 (records_from d)
-
--- the same by a template that was read as the first n segments of a pool
-abbrev pub lines_of : List ℕ → List ℕ → ℕ → List ℕ
-lines_of d cells n = all_lines d (chain_at cells n)
+-- the lines of all records of a sheet, by a template that was read
+abbrev pub all_lines : List ℕ → LogSegments → List ℕ
+all_lines d s = lines_from (form_by d) (settings_of (settings_in d)) (template_in d) s (records_of d)

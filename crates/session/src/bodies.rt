@@ -1,52 +1,41 @@
 // The bodies of a sheet: body 0 has the settings and the template, each other one is a record.
-ghost use Rattle.std.specs.Prelude.{◌≡◌, true, ◌+◌, get_or};
-ghost use Rattle.buffer.specs.Bytes.{part};
-ghost use Rattle.record.specs.Layout.{u32};
+ghost use Rattle.std.specs.Prelude.{◌≡◌, true};
 ghost use Rattle.sheet.specs.Sheets.{is_sheet, contents_end};
-ghost use Rattle.session.specs.Walking.{template_in, records_from, Lies};
+ghost use Rattle.session.specs.Walking.{settings_in, template_in, records_from};
 
+use super::Sheet;
 use sheet::{body_count, body_length};
 
-// Where body 0 begins.
-fn contents_end(d: &[u8]) -> usize
-    requires { is_sheet d.now ≡ true }
-    ensures { result ≡ contents_end d.now }
-{
-    2 + 4 * body_count(d)
-}
+impl<'a> Sheet<'a> {
+    // Where body 0 begins.
+    fn contents_end(&self) -> usize
+        ensures { result ≡ contents_end self.now }
+    {
+        2 + 4 * body_count(self.bytes)
+    }
 
-// Where the first record begins.
-pub(crate) fn records_from(d: &[u8]) -> usize
-    requires { is_sheet d.now ≡ true }
-    ensures { result ≡ records_from d.now }
-{
-    contents_end(d) + body_length(d, 2)
-}
+    // Where the first record begins.
+    pub(crate) fn records_from(&self) -> usize
+        ensures { result ≡ records_from self.now }
+    {
+        self.contents_end() + body_length(self.bytes, 2)
+    }
 
-// The settings byte: the first of body 0.
-pub(crate) fn settings_in(d: &[u8]) -> u8
-    requires { is_sheet d.now ≡ true }
-    ensures { result ≡ get_or d.now (contents_end d.now) 0 }
-{
-    let head = contents_end(d);
-    d[head]
-}
+    // The settings byte: the first of body 0.
+    pub(crate) fn settings(&self) -> u8
+        ensures byte { result ≡ settings_in self.now }
+        ensures sheet { is_sheet self.now ≡ true }
+    {
+        self.bytes[self.contents_end()]
+    }
 
-// The template: the rest of body 0.
-pub(crate) fn template_in(d: &[u8]) -> &[u8]
-    requires { is_sheet d.now ≡ true }
-    ensures { result.now ≡ template_in d.now }
-{
-    let from = contents_end(d) + 1;
-    let to = records_from(d);
-    &d[from..to]
-}
-
-// The record whose length stands at the place i of the contents, and which begins at the place j.
-pub(crate) fn record_in(d: &[u8], i: usize, j: usize) -> &[u8]
-    requires { Lies d.now i j }
-    ensures { result.now ≡ part j (j + u32 d.now i) d.now }
-{
-    let end = j + body_length(d, i);
-    &d[j..end]
+    // The template: the rest of body 0.
+    pub fn template(&self) -> &'a [u8]
+        ensures { result.now ≡ template_in self.now }
+    {
+        let bytes = self.bytes;
+        let from = self.contents_end() + 1;
+        let to = self.records_from();
+        &bytes[from..to]
+    }
 }

@@ -5,23 +5,48 @@ ghost use Rattle.std.specs.Prelude.{◌≡◌, length};
 ghost use Rattle.packing.specs.Packing.{Packable};
 ghost use Rattle.answer.specs.Answers.{in_room, answer_of, buffer_after};
 ghost use Rattle.outcomes.specs.Program.{session_entry};
-ghost use Rattle.session.specs.Walking.{Ready, lines_of};
+ghost use Rattle.std.specs.Bool.{then_some};
+ghost use Rattle.sheet.specs.Sheets.{is_sheet};
+ghost use Rattle.session.specs.Walking.{records_of, Served, lines_by};
 
-use opening::open_sheet;
+use answer::Reading;
 use packing::Answer;
 use refusals::Refusal;
+use segments::EMPTY;
+use sheet::is_sheet;
+use std::marker::Model;
 use walking::{put_records, records_length};
 
 mod bodies;
-pub mod opening;
+mod opening;
 pub mod records;
-pub mod walking;
+mod walking;
 
-// A sheet whose template was read into so many segments, or the refusal of the whole sheet.
-#[derive(Clone, Copy)]
-pub enum Opened {
-    Open(usize),
-    Refused(Refusal),
+// Bytes that are a sheet. A contract sees the bytes.
+#[derive(Drop)]
+pub struct Sheet<'a> {
+    bytes: &'a [u8],
+}
+
+impl<'a> Model for Sheet<'a> {
+    ghost use Rattle.std.specs.Prelude.{◌≡◌, true, ℕ, List};
+    ghost use Rattle.sheet.specs.Sheets.{is_sheet};
+
+    ghost Value = { List ℕ };
+
+    ghost view = { λ s. s.bytes.now };
+
+    ghost invariant = { λ s. is_sheet s.bytes.now ≡ true };
+}
+
+// The sheet that the bytes d are, if they are one.
+pub fn sheet_in(d: &[u8]) -> Option<Sheet<'_>>
+    ensures { result ≡ then_some (is_sheet d.now) d.now }
+{
+    if !is_sheet(d) {
+        return None;
+    }
+    Some(Sheet { bytes: d })
 }
 
 // The lines of all records of the sheet d, at the front of the lent buffer; or a refusal, and the buffer as it was.
@@ -30,25 +55,25 @@ pub fn session(d: &[u8], out: &mut [u8]) -> Answer
     ensures buffer { out.new ≡ buffer_after out.old (session_entry d.now out.old) }
     ensures packable { Packable result }
 {
-    let mut cells: [usize; 512] = [0; 512];
-    let opened = open_sheet(d, &mut cells);
-    match opened {
-        Opened::Open(n) => all_records(d, &cells, n, out),
-        Opened::Refused(r) => Answer::Refused(r),
-    }
+    let Some(sheet) = sheet_in(d) else {
+        return Err(Refusal::NotASheet);
+    };
+    let mut cells = [EMPTY; 64];
+    let n = sheet.open(&mut cells)?;
+    all_records(&sheet, &sheet.reading(&cells, n), out)
 }
 
 // The lines are measured first: where there is no room for all of them, none is written.
-fn all_records(d: &[u8], cells: &[usize], n: usize, out: &mut [u8]) -> Answer
-    requires { Ready d.now cells.now n }
-    ensures answer { result ≡ answer_of (in_room (length out.old) (lines_of d.now cells.now n)) }
-    ensures buffer { out.new ≡ buffer_after out.old (in_room (length out.old) (lines_of d.now cells.now n)) }
+fn all_records(sheet: &Sheet<'_>, reading: &Reading<'_>, out: &mut [u8]) -> Answer
+    requires { Served reading.now (records_of sheet.now) }
+    ensures answer { result ≡ answer_of (in_room (length out.old) (lines_by reading.now (records_of sheet.now))) }
+    ensures buffer { out.new ≡ buffer_after out.old (in_room (length out.old) (lines_by reading.now (records_of sheet.now))) }
     ensures packable { Packable result }
 {
-    let len = records_length(d, cells, n);
+    let len = records_length(sheet, reading);
     if out.len() < len {
-        return Answer::Refused(Refusal::LineTooLong(len));
+        return Err(Refusal::LineTooLong(len));
     }
-    put_records(d, cells, n, out);
-    Answer::Line(len)
+    put_records(sheet, reading, out);
+    Ok(len)
 }

@@ -1,26 +1,36 @@
-// Opening a sheet: is it one, and is its template read?
+// Reading the template of a sheet, and what the lines of its records are made by.
 ghost use Rattle.std.specs.Prelude.{◌≡◌, ◌≤◌, length};
-ghost use Rattle.session.specs.Walking.{opening, tell_opened, OpenedKeeps};
+ghost use Rattle.session.specs.Walking.{opening, tell_opened, OpenedKeeps, Ready, Reads};
 
-use super::Opened;
-use super::bodies::{settings_in, template_in};
+use super::Sheet;
+use answer::Reading;
 use refusals::Refusal;
-use settings::edition_of;
-use sheet::is_sheet;
-use template::{Parsed, parse};
+use segments::Cell;
+use settings::{edition_of, form_of, settings_of};
+use template::parse;
 
-// The refusal of the whole sheet, or the segments of its template in the pool.
-pub fn open_sheet(d: &[u8], cells: &mut [usize]) -> Opened
-    requires { 512 ≤ length cells.old }
-    ensures told { tell_opened result cells.new ≡ opening d.now }
-    ensures keeps { OpenedKeeps d.now cells.new result }
-{
-    if !is_sheet(d) {
-        return Opened::Refused(Refusal::NotASheet);
+impl<'a> Sheet<'a> {
+    // The refusal of the template, or its segments in the pool.
+    pub fn open(&self, cells: &mut [Cell]) -> Result<usize, Refusal>
+        requires { 64 ≤ length cells.old }
+        ensures told { tell_opened result cells.new ≡ opening self.now }
+        ensures keeps { OpenedKeeps self.now cells.new result }
+    {
+        parse(edition_of(self.settings()), self.template(), cells)
     }
-    let read = parse(edition_of(settings_in(d)), template_in(d), cells);
-    match read {
-        Parsed::Read(n) => Opened::Open(n),
-        Parsed::Refused(r) => Opened::Refused(r),
+
+    // What the lines of the records are made by: the template was read into n segments.
+    pub fn reading(&self, cells: &'a [Cell], n: usize) -> Reading<'a>
+        requires { Ready self.now cells.now n }
+        ensures { Reads self.now cells.now n result }
+    {
+        let settings = self.settings();
+        Reading {
+            form: form_of(settings),
+            settings: settings_of(settings),
+            template: self.template(),
+            cells,
+            count: n,
+        }
     }
 }

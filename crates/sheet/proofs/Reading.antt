@@ -2,7 +2,7 @@
 use mathlib.Core.Path.{◌≡◌, ap, sym, subst, ◌∙◌}
 use mathlib.Core.Bool.{◌&&◌}
 use mathlib.Core.List.{List}
-use Prim.Native.Nat.{ℕ, suc, ◌+◌, ◌*◌, ◌-◌, ◌≤◌}
+use Prim.Native.Nat.{ℕ, suc, ◌+◌, ◌*◌, ◌-◌, ◌≤◌, ◌<◌, ◌^◌}
 use native.Mathlib.Omega.{arith}
 use lib.ListN.{length}
 use Rattle.buffer.specs.Bytes.{part}
@@ -20,6 +20,18 @@ pub record Read (d : List ℕ) (n k : ℕ) : Type 0 where
   pub contents : 2 + 4 * n ≤ length d
   pub whole : 2 + 4 * n + body_bytes n d 2 ≡ length d
   pub first : k ≡ u32 d 2
+
+-- by what the reader has asked and was told
+pub read_at : (d : List ℕ) (n end k : ℕ) → length d ≤ 65536 → (n ≡ body_count d) × (n ≤ 65535) → (n ≡ 0 → ⊥) → 2 + 4 * n ≤ length d
+    → end ≡ 2 + 4 * n + body_bytes n d 2 → end ≡ length d → (k ≡ u32 d 2) × (k < 2 ^ 32) → Read d n k
+read_at d n end k short count some contents sum whole first = record {
+  short = short;
+  count = count.0;
+  some_body = omega (arith, some);
+  contents = contents;
+  whole = sym sum ∙ whole;
+  first = first.0;
+}
 
 module _ (d : List ℕ) (n k : ℕ) (r : Read d n k) where
   one_more : n ≡ suc (n - 1)

@@ -17,6 +17,10 @@ pub record Left (m : ℕ) (d : List ℕ) (i j : ℕ) : Type 0 where
   pub lengths : i + 4 * m ≤ length d
   pub whole : j + body_bytes m d i ≡ length d
 
+-- the place of the length after the one at k
+pub next_place : (i k : ℕ) → i + 4 * k + 4 ≡ i + 4 * (k + 1)
+next_place i k = omega arith
+
 -- before the first body
 pub all_left : (d : List ℕ) → is_sheet d ≡ true → Left (body_count d) d 2 (contents_end d)
 all_left d e =

@@ -14,32 +14,24 @@ use settings::{form_of, is_known};
 pub fn is_sheet(d: &[u8]) -> bool
     ensures { result ≡ is_sheet d.now }
 {
-    if 65536 < d.len() {
-        return false;
-    }
-    if d.len() < 2 {
+    if d.len() < 2 || 65536 < d.len() {
         return false;
     }
     let n = body_count(d);
-    if n == 0 {
-        return false;
-    }
-    // before the lengths are read: a short sheet may claim 65,535 bodies
     let from = 2 + 4 * n;
-    if d.len() < from {
+    // before the lengths are read: a short sheet may claim 65,535 bodies
+    if n == 0 || d.len() < from {
         return false;
     }
     if bodies_end(d, n, from) != d.len() {
         return false;
     }
     let to = from + body_length(d, 2);
-    if is_head(&d[from..to]) {
-        return are_records(form_of(d[from]), d, n - 1, 6, to);
-    }
-    false
+    is_head(&d[from..to]) && are_records(form_of(d[from]), d, n - 1, 6, to)
 }
 
 // The number of bodies that the contents name.
+#[tactic(auto, unfolding(crate::specs::Sheets::body_count))]
 pub fn body_count(d: &[u8]) -> usize
     requires { 2 ≤ length d.now }
     ensures { (result ≡ body_count d.now) × (result ≤ 65535) }
@@ -55,49 +47,39 @@ pub fn body_length(d: &[u8], i: usize) -> usize
     u32_at(d, i)
 }
 
-// Where n bodies end that begin at the place `from`. The contents fit the sheet, so that no sum of their lengths comes near 64 bits.
+// Where n bodies end that begin at the place `from`. Lengths are read by their places, here and below (d): so the definitions count them. The contents fit the sheet, so that no sum of their lengths comes near 64 bits.
 fn bodies_end(d: &[u8], n: usize, from: usize) -> usize
     requires { (2 + 4 * n ≤ length d.now) × ((from ≤ length d.now) × (length d.now ≤ 65536)) }
     ensures { result ≡ from + body_bytes n d.now 2 }
 {
     let mut end = from;
-    let mut left = n;
-    let mut i = 2;
-    while 0 < left {
-        end += body_length(d, i);
-        left -= 1;
-        i += 4;
+    for k in 0..n {
+        end += body_length(d, 2 + 4 * k);
     }
     end
 }
 
 // Whether a body can be body 0: it has a settings byte, with known bits only.
+#[tactic(auto, unfolding(crate::specs::Sheets::is_head))]
 fn is_head(body: &[u8]) -> bool
     ensures { result ≡ is_head body.now }
 {
-    if body.len() == 0 {
-        return false;
-    }
-    is_known(body[0])
+    body.first().is_some_and(|settings| is_known(*settings))
 }
 
-// Whether n bodies are records of the right size: their lengths stand from the place `contents` on, they from the place `from` on.
+// Whether n bodies are records of the right size: their lengths stand from the place `contents` on, they from the place `from` on. It is no walk over
+// session's `Records` (d), which promises what is yet to be found out here.
 fn are_records(form: Form, d: &[u8], n: usize, contents: usize, from: usize) -> bool
     requires { (contents + 4 * n ≤ length d.now) × (from + body_bytes n d.now contents ≡ length d.now) }
     ensures { result ≡ are_records form (bodies_from n d.now contents from) }
 {
-    let mut left = n;
-    let mut i = contents;
     let mut j = from;
-    while 0 < left {
-        let end = j + body_length(d, i);
-        if right_size(form, &d[j..end]) {
-            left -= 1;
-            i += 4;
-            j = end;
-        } else {
+    for k in 0..n {
+        let end = j + body_length(d, contents + 4 * k);
+        if !right_size(form, &d[j..end]) {
             return false;
         }
+        j = end;
     }
     true
 }

@@ -1,5 +1,5 @@
 -- Scaffolding, for proofs alone: tables of words: the words of one, and the index of a word in it. Assumes nothing.
-use Rattle.std.specs.Prelude.{ℕ, zero, suc, ◌≡◌, refl, Bool, true, false, List, [], ◌∷◌, ◌++◌, length, take, drop}
+use Rattle.std.specs.Prelude.{ℕ, zero, suc, ◌≡◌, refl, Bool, true, false, Option, Some, None, List, [], ◌∷◌, ◌++◌, ltb, length, take, drop}
 use Rattle.buffer.specs.Bytes.{bytes, same}
 use Rattle.buffer.specs.Table.{Maybe, none, some, Entry}
 use Rattle.runs.specs.Runs.{lower, lowered}
@@ -27,6 +27,10 @@ words_in (k ∷ lengths) s = take k s ∷ words_in lengths (drop k s)
 unfoldable pub index_of : List (List ℕ) → List ℕ → ℕ
 index_of [] w = 0
 index_of (x ∷ rest) w = elim (same x w) [ true ↦ 0 | false ↦ suc (index_of rest w) ]
+
+-- the index of the first word that is w, where one is
+unfoldable pub find_word : List (List ℕ) → List ℕ → Option ℕ
+find_word words w = elim (ltb (index_of words w) (length words)) [ true ↦ Some (index_of words w) | false ↦ None ]
 
 -- ---- tables of entries
 

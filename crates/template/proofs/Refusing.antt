@@ -5,9 +5,10 @@ use mathlib.Core.Bool.{Bool, true, false, not, ◌||◌}
 use mathlib.Core.List.{List}
 use mathlib.Core.Logic.{◌⊎◌, inl, inr}
 use native.Mathlib.Omega.{arith}
-use lib.Dec.{leb, ltb}
-use lib.ListN.{length, replicate}
+use lib.Dec.{leb, ltb, eqb}
+use lib.ListN.{length, replicate, get_or}
 use borrow.Author.Tests.{leb-true}
+use Rattle.std.specs.Prelude.{Some, None, Ok, Err}
 use Rattle.buffer.specs.Bytes.{part, same}
 use Rattle.buffer.specs.Table.{Maybe, none, some, lookup}
 use Rattle.utf8.specs.Utf8.{valid}
@@ -23,8 +24,7 @@ use Rattle.segments.specs.Segments.{LogSegment, LogSegments, any_specifier, is_l
 use Rattle.segments.specs.Segments as segments
 use Rattle.parts.specs.declared.Parts.{Parts}
 use Rattle.parts.specs.Parts.{no_parts, has_specifier, segment_of}
-use Rattle.braces.specs.declared.Closing.{Closing}
-use Rattle.braces.specs.Braces.{closing}
+use Rattle.braces.specs.Braces.{Closing, Mark, opens, closes, escapes, neither, mark_of, past_mark, closing}
 use Rattle.building.specs.Reading.{Made, Reader, make, make_or, text_to, text_at, plain_byte, word_at, inner_at, Taken, one, several, Content, odd_item, even_item, built, no_content, item_at, separator, content_at, Group, percent_at, piece_at, closed, no_group, group_at, brace_to, brace_at, inside_at, Top, top_at}
 use Rattle.building.specs.Reading as building
 use Rattle.template.specs.Template.{Template, read, refusal, with_message, reading, ended, top_level, read_template, all_used, read_by}
@@ -189,6 +189,30 @@ inner_met : (t : List ℕ) (i e n : ℕ) → Met (inner_at t i e n)
 unfolding inner_at
 inner_met t i e n = followed (listed 0x3A t e (word_at t e) i no_parts) _ (lists (word_at t e) (word_met t e) 0x3A t e i no_parts) (λ p j. make_or_lem misfit n j (segment_of p) tt)
 
+-- ---- the search for a closing brace
+
+abbrev Closes : Closing → Type 0
+Closes (Ok c) = Unit {0}
+Closes (Err r) = ByReading r
+
+past_met : (onward : ℕ → Bool → Closing) → ((k : ℕ) (skip : Bool) → Closes (onward k skip)) → (i k : ℕ) (m : Mark) → Closes (past_mark onward i k m)
+unfolding past_mark
+past_met onward h i k opens = h (k + 1) false
+past_met onward h i k closes = by (eqb k 0)
+  where
+    by : (b : Bool) → Closes (elim b [ true ↦ Ok (Some i) | false ↦ onward (k - 1) false ])
+    by true = tt
+    by false = h (k - 1) false
+past_met onward h i k escapes = h k true
+past_met onward h i k neither = h k false
+
+closing_met : (t : List ℕ) (n i k : ℕ) (skip : Bool) → Closes (closing t n i k skip)
+unfolding closing
+closing_met t zero i k true = tt
+closing_met t zero i k false = tt
+closing_met t (suc n) i k true = closing_met t n (i + 1) k false
+closing_met t (suc n) i k false = past_met (closing t n (i + 1)) (λ k' skip. closing_met t n (i + 1) k' skip) i k (mark_of (get_or t i 0))
+
 -- ---- contents, groups and braces
 
 abbrev Reads : Reader → Type 0
@@ -236,15 +260,15 @@ module _ (t : List ℕ) where
   unfolding group_at
   group_met f h i e n = followed (repeated (piece_at t f e) (e - i) i (no_group n)) closed (repeats (piece_at t f e) (piece_met f h e) (e - i) i (no_group n)) closed_met
 
-  brace_to_lem : (f : Reader) → Reads f → (i n : ℕ) (k : Closing) → Met (brace_to f i n k)
+  brace_to_lem : (f : Reader) → Reads f → (i n : ℕ) (k : Closing) → Closes k → Met (brace_to f i n k)
   unfolding brace_to
-  brace_to_lem f h i n (Closing.At c) = followed (f (i + 1) c n) _ (h (i + 1) c n) (λ x j. tt)
-  brace_to_lem f h i n Closing.Nowhere = tt
-  brace_to_lem f h i n Closing.HalfEscape = tt
+  brace_to_lem f h i n (Ok (Some c)) g = followed (f (i + 1) c n) _ (h (i + 1) c n) (λ x j. tt)
+  brace_to_lem f h i n (Ok None) g = tt
+  brace_to_lem f h i n (Err r) g = g
 
   brace_met : (f : Reader) → Reads f → Reads (brace_at t f)
   unfolding brace_at
-  brace_met f h i e n = let k = closing t (e - (i + 1)) (i + 1) 0 false in choice (stands 0x7B t i e) (brace_to f i n k) misfit (brace_to_lem f h i n k) tt
+  brace_met f h i e n = let k = closing t (e - (i + 1)) (i + 1) 0 false in choice (stands 0x7B t i e) (brace_to f i n k) misfit (brace_to_lem f h i n k (closing_met t (e - (i + 1)) (i + 1) 0 false)) tt
 
   inside_met : (d : ℕ) (even : Bool) → Reads (inside_at d even t)
   unfolding inside_at

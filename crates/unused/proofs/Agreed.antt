@@ -6,6 +6,7 @@ use mathlib.Core.List.{List, [], ◌++◌}
 use native.Mathlib.Omega.{arith}
 use lib.Dec.{ltb}
 use lib.ListN.{length}
+use Rattle.std.specs.Prelude.{Some, None, Ok, Err}
 use Rattle.buffer.specs.Bytes.{byte}
 use Rattle.buffer.specs.Table.{Maybe, none, some}
 use Rattle.refusals.specs.declared.Refusal.{Refusal}
@@ -15,12 +16,10 @@ use Rattle.words.specs.Words.{specifier_at, parameter_at}
 use Rattle.parts.specs.declared.Parts.{Parts}
 use Rattle.parts.specs.Parts.{no_parts, segment_of, has_specifier}
 use Rattle.segments.specs.Segments.{LogSegment, text, group, any_specifier}
-use Rattle.braces.specs.declared.Closing.{Closing}
-use Rattle.braces.specs.Braces.{closing}
+use Rattle.braces.specs.Braces.{Closing, closing}
 use Rattle.building.specs.Reading.{Made, make, make_or, plain_byte, text_to, text_at, word_at, inner_at, Taken, nothing, one, several, taking, with_segment, with_words, built, no_content, separator, Group, with_asked, percent_at, closed, no_group, Top}
-use Rattle.endings.specs.declared.Ends.{Ends}
-use Rattle.endings.specs.Ending.{end_of, or_end, word_end, plain_end}
-use Rattle.unused.specs.Unused.{Unused, place_of, sooner, first_of, dropped_from, all_lost, lost_with, Noted, noted, NotedReader, NotedContent, asked_from, with_noted, named_at, asked_at, item_noted, unused_by, nothing_noted, content_noted, with_noted_member, piece_noted, group_noted, brace_noted_to, brace_noted, inside_noted, top_noted, unused_up_to, reading_noted, unused_in}
+use Rattle.endings.specs.Ending.{Ends, end_of, or_end}
+use Rattle.unused.specs.Unused.{Unused, sooner, first_of, dropped_from, all_lost, lost_with, Noted, noted, NotedReader, NotedContent, asked_from, with_noted, named_at, asked_at, item_noted, unused_by, nothing_noted, content_noted, with_noted_member, piece_noted, group_noted, brace_noted_to, brace_noted, inside_noted, top_noted, unused_up_to, reading_noted, unused_in}
 use Rattle.unused.specs.Looking.{reaches, Sight, Looker, worded, asking_from, grouping, look_item, lost_if, left_by_content, no_sight, look_content, look_piece, look_group, look_brace_to, look_brace, look_inside, look_top, left_up_to, tops_looked, left_over, WasRead}
 use Rattle.unused.proofs.Agreeing.{Agrees, agrees_or, agrees_then, agrees_if, agrees_repeated, agrees_listed}
 use Rattle.unused.proofs.Forgetting.{seen, tops_are}
@@ -34,7 +33,7 @@ note x = first_of x.unused
 
 module _ {S U : Type 0} (f : S → U) (u : U) where
   ends_agree : {A : Type 0} (x : Tried A) (k : A → S) → ((a : A) → f (k a) ≡ u) → Agrees f (x then λ a j. fit (k a) j) (reaches (end_of x) u)
-  unfolding Agrees ◌then◌ reaches end_of
+  unfolding Agrees ◌then◌
   ends_agree (fit a j) k h = ap (λ (z : U). fit z j) (sym (h a))
   ends_agree misfit k h = refl
   ends_agree (refused r) k h = tt
@@ -48,17 +47,17 @@ module _ {S U : Type 0} (f : S → U) (u : U) where
     room_agrees false a j = tt
 
     make_agrees : (x : LogSegment) (made j : ℕ) → Agrees f (make x made j then λ a j. fit (k a) j) (reaches (end_of (make x 0 j)) u)
-    unfolding make reaches end_of
+    unfolding make
     make_agrees x made j = room_agrees (ltb made 64) (record { segment = x; made = made + 1 }) j
 
     maybe_agrees : (m : Maybe LogSegment) (made j : ℕ) → Agrees f (make_or misfit made j m then λ a j. fit (k a) j) (reaches (end_of (make_or misfit 0 j m)) u)
-    unfolding make_or Agrees ◌then◌ reaches end_of
+    unfolding make_or Agrees ◌then◌
     maybe_agrees none made j = refl
     maybe_agrees (some x) made j = make_agrees x made j
 
     words_agree : (x : Tried Parts) (made : ℕ)
         → Agrees f ((x then λ p j. make_or misfit made j (segment_of p)) then λ a j. fit (k a) j) (reaches (end_of (x then λ p j. make_or misfit 0 j (segment_of p))) u)
-    unfolding Agrees ◌then◌ reaches end_of
+    unfolding Agrees ◌then◌
     words_agree (fit p j) made = maybe_agrees (segment_of p) made j
     words_agree misfit made = refl
     words_agree (refused r) made = tt
@@ -70,7 +69,7 @@ module _ {S U : Type 0} (f : S → U) (u : U) where
     long_agrees : (b : Bool) (x : LogSegment) (made j : ℕ)
         → Agrees f ((elim b as (λ _. Tried Made) [ true ↦ make x made j | false ↦ misfit ]) then λ a j. fit (k a) j)
         (reaches (end_of {A = Made} (elim b as (λ _. Tried Made) [ true ↦ make x 0 j | false ↦ misfit ])) u)
-    unfolding Agrees ◌then◌ reaches end_of
+    unfolding Agrees ◌then◌
     long_agrees true x made j = make_agrees x made j
     long_agrees false x made j = refl
 
@@ -137,14 +136,13 @@ taken_takes (one x) y = refl
 taken_takes several y = refl
 
 lost_takes : (x : Taken) (asked : List ℕ) → lost_if (takes_of x) (first_of (all_lost asked)) ≡ first_of (lost_with x asked)
-unfolding takes_of lost_if lost_with first_of
+unfolding takes_of lost_with
 lost_takes nothing asked = refl
 lost_takes (one x) asked = refl
 lost_takes several asked = refl
 
 -- with nothing noted beside it, a note is the same
 nothing_more : (u : List Unused) → first_of (u ++ []) ≡ first_of u
-unfolding first_of
 nothing_more u = first_joined u [] ∙ sooner_none (first_of u)
 
 unfoldable pub sight : NotedContent → Sight
@@ -156,15 +154,15 @@ SameNotes reader looker = (i e made : ℕ) → Agrees (λ (x : Noted Made). note
 
 module _ (t : List ℕ) (groupN : NotedReader) (groupL : Looker) (g : SameNotes groupN groupL) (e i : ℕ) (c : NotedContent) where
   named_agrees : Agrees sight (named_at t e i c) (reaches (end_of (specifier_at t i e)) (worded false (sight c)))
-  unfolding named_at worded sight with_words
+  unfolding named_at sight with_words
   named_agrees = ends_agree sight (sight c) (specifier_at t i e) _ (λ m. refl)
 
   asks_agree : Agrees sight (asked_at t e i c) (reaches (end_of (parameter_at t i e)) (asking_from (sight c) i))
-  unfolding asked_at asked_from asking_from sight with_words all_lost first_of place_of
+  unfolding asked_at asked_from sight with_words all_lost
   asks_agree = ends_agree sight (asking_from (sight c) i) (parameter_at t i e) (asked_from c i) (λ a. refl)
 
   inner_worded : (x : Made) → sight (with_noted c (noted x [])) ≡ worded true (sight c)
-  unfolding with_noted sight worded with_segment
+  unfolding with_noted sight with_segment
   inner_worded x =
       ap (λ (u : Maybe ℕ). record { unused = u; asked = first_of (all_lost c.asked); takes = takes_of (taking c.content.taken x.segment) }) (nothing_more c.unused)
       ∙ ap (λ (b : Bool). record { unused = first_of c.unused; asked = first_of (all_lost c.asked); takes = b }) (taken_takes c.content.taken x.segment)
@@ -173,7 +171,7 @@ module _ (t : List ℕ) (groupN : NotedReader) (groupL : Looker) (g : SameNotes 
   inner_too = inner_agrees sight (worded true (sight c)) (λ x. with_noted c (noted x [])) inner_worded t i e c.content.made
 
   group_grouping : (x : Noted Made) → grouping (sight c) (note x) ≡ sight (with_noted c x)
-  unfolding with_noted sight grouping with_segment
+  unfolding with_noted sight with_segment
   group_grouping x =
       ap (λ (b : Bool). record { unused = sooner (first_of c.unused) (note x); asked = first_of (all_lost c.asked); takes = b }) (sym (taken_takes c.content.taken x.what.segment))
       ∙ ap (λ (u : Maybe ℕ). record { unused = u; asked = first_of (all_lost c.asked); takes = takes_of (taking c.content.taken x.what.segment) }) (sym (first_joined c.unused x.unused))
@@ -184,19 +182,19 @@ module _ (t : List ℕ) (groupN : NotedReader) (groupL : Looker) (g : SameNotes 
       (λ x j. ap (λ (z : Sight). fit z j) (group_grouping x))
 
   item_agrees : (even : Bool) → Agrees sight (item_noted even t groupN e i c) (look_item even t groupL e i (sight c))
-  unfolding item_noted look_item word_end
+  unfolding item_noted look_item
   item_agrees true = agrees_or sight _ _ _ _ inner_too (agrees_or sight _ _ _ _ asks_agree group_too)
   item_agrees false = agrees_or sight _ _ _ _ named_agrees (agrees_or sight _ _ _ _ asks_agree group_too)
 
 left_by_lem : (c : NotedContent) (j e : ℕ) → left_by_content (sight c) j e ≡ first_of (unused_by c j e)
-unfolding left_by_content sight unused_by
+unfolding sight unused_by
 left_by_lem c j e =
     ap (λ (u : Maybe ℕ). sooner (first_of c.unused) (sooner u (first_of (dropped_from j e)))) (lost_takes c.content.taken c.asked)
     ∙ ap (sooner (first_of c.unused)) (sym (first_joined (lost_with c.content.taken c.asked) (dropped_from j e)))
     ∙ sym (first_joined c.unused (lost_with c.content.taken c.asked ++ dropped_from j e))
 
 begins : (made : ℕ) → sight (nothing_noted made) ≡ no_sight
-unfolding sight nothing_noted no_sight no_content takes_of first_of all_lost
+unfolding sight nothing_noted no_content takes_of all_lost
 begins made = refl
 
 content_agrees : (even : Bool) (t : List ℕ) (groupN : NotedReader) (groupL : Looker) → SameNotes groupN groupL → SameNotes (content_noted even t groupN) (look_content even t groupL)
@@ -211,9 +209,9 @@ content_agrees even t groupN groupL g i e made =
 -- ---- groups
 
 reaches_or : {S : Type 0} (x y : Ends) (s : S) → (reaches x s or_else λ _. reaches y s) ≡ reaches (or_end x y) s
-unfolding reaches or_end ◌or_else◌
-reaches_or (Ends.At j) y s = refl
-reaches_or Ends.Nowhere y s = refl
+unfolding ◌or_else◌
+reaches_or (Some j) y s = refl
+reaches_or None y s = refl
 
 module _ (t : List ℕ) (braceN : NotedReader) (braceL : Looker) (b : SameNotes braceN braceL) (e i : ℕ) (g : Noted Group) where
   brace_too : Agrees (λ (g : Noted Group). note g) (braceN i e g.what.made then λ x j. fit (with_noted_member g x) j) (braceL i e then λ v j. fit (sooner (note g) v) j)
@@ -228,7 +226,7 @@ module _ (t : List ℕ) (braceN : NotedReader) (braceL : Looker) (b : SameNotes 
   percent_too = ends_agree (λ (g : Noted Group). note g) (note g) (percent_at t i e) _ (λ a. refl)
 
   piece_agrees : Agrees (λ (g : Noted Group). note g) (piece_noted t braceN e i g) (look_piece t braceL e i (note g))
-  unfolding piece_noted look_piece plain_end
+  unfolding piece_noted look_piece
   piece_agrees =
       agrees_or (λ (g : Noted Group). note g) _ _ _ _ brace_too
       (subst (Agrees (λ (g : Noted Group). note g) _) (reaches_or (end_of (text_at t i e 0)) (end_of (percent_at t i e)) (note g))
@@ -242,7 +240,7 @@ fit_as_it_is misfit = refl
 fit_as_it_is (refused r) = refl
 
 group_agrees : (t : List ℕ) (braceN : NotedReader) (braceL : Looker) → SameNotes braceN braceL → SameNotes (group_noted t braceN) (look_group t braceL)
-unfolding group_noted look_group first_of
+unfolding group_noted look_group
 group_agrees t braceN braceL b i e made =
     subst (Agrees (λ (x : Noted Made). note x) _) (fit_as_it_is (repeated (look_piece t braceL e) (e - i) i none))
     (agrees_then (λ (g : Noted Group). note g) (λ (x : Noted Made). note x) (repeated (piece_noted t braceN e) (e - i) i (noted (no_group made) [])) (repeated (look_piece t braceL e) (e - i) i none) _ _
@@ -253,10 +251,10 @@ group_agrees t braceN braceL b i e made =
 
 closed_at : (insideN : NotedReader) (insideL : Looker) → SameNotes insideN insideL → (i made : ℕ) (c : Closing)
     → Agrees (λ (x : Noted Made). note x) (brace_noted_to insideN i made c) (look_brace_to insideL i c)
-unfolding brace_noted_to look_brace_to Agrees
-closed_at insideN insideL h i made (Closing.At c) = agrees_then (λ (x : Noted Made). note x) (λ (x : Noted Made). note x) (insideN (i + 1) c made) (insideL (i + 1) c) _ _ (h (i + 1) c made) (λ x j. refl)
-closed_at insideN insideL h i made Closing.Nowhere = refl
-closed_at insideN insideL h i made Closing.HalfEscape = tt
+unfolding brace_noted_to Agrees
+closed_at insideN insideL h i made (Ok (Some c)) = agrees_then (λ (x : Noted Made). note x) (λ (x : Noted Made). note x) (insideN (i + 1) c made) (insideL (i + 1) c) _ _ (h (i + 1) c made) (λ x j. refl)
+closed_at insideN insideL h i made (Ok None) = refl
+closed_at insideN insideL h i made (Err r) = tt
 
 brace_agrees : (t : List ℕ) (insideN : NotedReader) (insideL : Looker) → SameNotes insideN insideL → SameNotes (brace_noted t insideN) (look_brace t insideL)
 unfolding brace_noted look_brace Agrees
@@ -279,7 +277,7 @@ top_agrees t e i s =
     (text_agrees (λ (s : Noted Top). note s) (note s) _ (λ x. refl) t i e s.what.made)
 
 tops_agree : (t : List ℕ) → Agrees (λ (s : Noted Top). note s) (reading_noted t) (tops_looked t)
-unfolding reading_noted tops_looked first_of
+unfolding reading_noted tops_looked
 tops_agree t = agrees_repeated (λ (s : Noted Top). note s) (top_noted t (length t)) (look_top t (length t)) (top_agrees t (length t)) (length t) 0 _
 
 -- ---- a template that was read

@@ -4,15 +4,15 @@ use mathlib.Core.Path.{◌≡◌, refl, sym, ap, ◌∙◌}
 use mathlib.Core.Bool.{Bool, true, false, not}
 use mathlib.Core.List.{List, []}
 use lib.ListN.{length}
+use Rattle.std.specs.Prelude.{Some, None, Ok, Err}
 use Rattle.buffer.specs.Bytes.{byte}
 use Rattle.words.specs.declared.LogMetadata.{LogMetadata}
 use Rattle.runs.specs.Runs.{stands}
 use Rattle.words.specs.Trying.{Tried, fit, misfit, refused, ◌or_else◌, ◌then◌, while_it_fits, repeated, further, listed}
 use Rattle.words.specs.Words.{specifier_at, parameter_at}
 use Rattle.parts.specs.Parts.{with_specifier, with_parameter}
-use Rattle.braces.specs.declared.Closing.{Closing}
 use Rattle.segments.specs.Segments as segments
-use Rattle.braces.specs.Braces.{closing}
+use Rattle.braces.specs.Braces.{Closing, closing}
 use Rattle.building.specs.Reading.{Made, Reader, text_at, inner_at, word_at, Content, odd_item, even_item, item_at, with_words, with_segment, built, separator, content_at, Group, with_member, with_asked, percent_at, piece_at, closed, no_group, group_at, brace_to, brace_at, inside_at, Top, top_at}
 use Rattle.unused.specs.Unused.{Unused, Noted, noted, unnoted, NotedReader, NotedContent, asked_from, with_noted, named_at, asked_at, item_noted, nothing_noted, unused_by, content_noted, with_noted_member, piece_noted, group_noted, brace_noted_to, brace_noted, inside_noted, top_noted, reading_noted}
 
@@ -196,9 +196,9 @@ group_is t braceN braceP b i e made =
 closed_at : (insideN : NotedReader) (insideP : Reader) → Forgets insideN insideP → (i made : ℕ) (c : Closing)
     → seen (λ (x : Noted Made). x.what) (brace_noted_to insideN i made c) ≡ brace_to insideP i made c
 unfolding brace_noted_to brace_to seen
-closed_at insideN insideP h i made (Closing.At c) = seen_both (λ (x : Noted Made). x.what) (λ (x : Noted Made). x.what) (insideN (i + 1) c made) _ _ _ (h (i + 1) c made) (λ x j. refl)
-closed_at insideN insideP h i made Closing.Nowhere = refl
-closed_at insideN insideP h i made Closing.HalfEscape = refl
+closed_at insideN insideP h i made (Ok (Some c)) = seen_both (λ (x : Noted Made). x.what) (λ (x : Noted Made). x.what) (insideN (i + 1) c made) _ _ _ (h (i + 1) c made) (λ x j. refl)
+closed_at insideN insideP h i made (Ok None) = refl
+closed_at insideN insideP h i made (Err r) = refl
 
 by_test : (b : Bool) (x : Tried (Noted Made)) (y : Tried Made) → seen (λ (z : Noted Made). z.what) x ≡ y
     → seen (λ (z : Noted Made). z.what) (elim b as (λ _. Tried (Noted Made)) [ true ↦ x | false ↦ misfit ]) ≡ elim b as (λ _. Tried Made) [ true ↦ y | false ↦ misfit ]

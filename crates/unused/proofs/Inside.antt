@@ -7,6 +7,7 @@ use native.Mathlib.Omega.{arith}
 use lib.Dec.{eqb, ltb}
 use lib.ListN.{length, get_or}
 use borrow.Author.Tests.{ltb-true, ltb-false}
+use Rattle.std.specs.Prelude.{Option, Some, None, Ok, Err}
 use Rattle.buffer.specs.Bytes.{byte}
 use Rattle.buffer.specs.Table.{Maybe, none, some}
 use Rattle.words.specs.declared.Parameter.{Parameter}
@@ -16,9 +17,9 @@ use Rattle.words.specs.Trying.{Tried, fit, misfit, refused, ◌or_else◌, ◌th
 use Rattle.words.specs.Words.{specifier_at, name, parameter_of, width_at, parameter_at}
 use Rattle.words.proofs.Attempts.{or_else_misfit}
 use Rattle.words.proofs.Asking.{no_parameter, width_end}
-use Rattle.braces.specs.declared.Closing.{Closing}
-use Rattle.braces.specs.Braces.{Mark, opens, closes, escapes, neither, mark_of, past_mark, closing}
+use Rattle.braces.specs.Braces.{Closing, Mark, opens, closes, escapes, neither, mark_of, past_mark, closing}
 use Rattle.building.specs.Reading.{Made, text_at, inner_at, Taken, nothing, one, several, built, separator, Group, percent_at, closed, no_group, Top}
+use Rattle.unused.specs.Looking.{place_told, PlaceBelow}
 use Rattle.unused.specs.Unused.{Unused, bytes_dropped, parameter_lost, place_of, sooner, first_of, dropped_from, all_lost, lost_with, LiesIn, AllLieIn, Noted, noted, NotedReader, NotedContent, nothing_noted, asked_from, with_noted, named_at, asked_at, item_noted, unused_by, content_noted, with_noted_member, piece_noted, group_noted, brace_noted_to, brace_noted, inside_noted, top_noted, unused_up_to, reading_noted, unused_in}
 
 -- ---- notes
@@ -39,7 +40,7 @@ wider n m h [] p = tt
 wider n m h (u ∷ x) p = (one_wider n m h u p.0, wider n m h x p.1)
 
 dropped_in : (i e : ℕ) → AllLieIn e (dropped_from i e)
-unfolding dropped_from AllLieIn LiesIn
+unfolding AllLieIn LiesIn
 dropped_in i e = by (ltb i e) refl
   where
     by : (b : Bool) → ltb i e ≡ b → AllLieIn e (elim b as (λ _. List Unused) [ true ↦ bytes_dropped i e ∷ [] | false ↦ [] ])
@@ -115,19 +116,19 @@ parameter_past t i e h =
 
 module _ (t : List ℕ) where
   -- what the byte at i does
-  past_before : (onward : ℕ → Bool → Closing) (n i k c : ℕ) → ((k' : ℕ) (skip : Bool) → onward k' skip ≡ Closing.At c → c < i + suc n)
-      → (m : Mark) → past_mark onward i k m ≡ Closing.At c → c < i + suc n
+  past_before : (onward : ℕ → Bool → Closing) (n i k c : ℕ) → ((k' : ℕ) (skip : Bool) → onward k' skip ≡ Ok (Some c) → c < i + suc n)
+      → (m : Mark) → past_mark onward i k m ≡ Ok (Some c) → c < i + suc n
   unfolding past_mark
   past_before onward n i k c h opens p = h (k + 1) false p
   past_before onward n i k c h closes p = here (eqb k 0) p
     where
-      here : (b : Bool) → elim b as (λ _. Closing) [ true ↦ Closing.At i | false ↦ onward (k - 1) false ] ≡ Closing.At c → c < i + suc n
+      here : (b : Bool) → elim b as (λ _. Closing) [ true ↦ Ok (Some i) | false ↦ onward (k - 1) false ] ≡ Ok (Some c) → c < i + suc n
       here true q = let e : i ≡ c = cc in omega arith
       here false q = h (k - 1) false q
   past_before onward n i k c h escapes p = h k true p
   past_before onward n i k c h neither p = h k false p
 
-  closing_before : (n i k : ℕ) (skip : Bool) (c : ℕ) → closing t n i k skip ≡ Closing.At c → c < i + n
+  closing_before : (n i k : ℕ) (skip : Bool) (c : ℕ) → closing t n i k skip ≡ Ok (Some c) → c < i + n
   unfolding closing
   closing_before zero i k true c q = absurd (let z : ◌≡◌ {A = ℕ} 0 1 = cc in let y : ⊥ = omega arith in y)
   closing_before zero i k false c q = absurd (let z : ◌≡◌ {A = ℕ} 0 1 = cc in let y : ⊥ = omega arith in y)
@@ -215,11 +216,11 @@ brace_notes t inside h i e made = by (stands (byte "{") t i e) refl
     P x = AllLieIn e x.unused
 
     to : i < e → (c : Closing) → closing t (e - (i + 1)) (i + 1) 0 false ≡ c → Gives P (brace_noted_to inside i made c)
-    to b (Closing.At c) q =
+    to b (Ok (Some c)) q =
         let l = closing_before t (e - (i + 1)) (i + 1) 0 false c q in
         gives_then (λ (x : Noted Made). AllLieIn c x.unused) P (inside (i + 1) c made) _ (h (i + 1) c made) (λ x j p. wider c e (omega arith) x.unused p)
-    to b Closing.Nowhere q = tt
-    to b Closing.HalfEscape q = tt
+    to b (Ok None) q = tt
+    to b (Err r) q = tt
 
     by : (b : Bool) → stands (byte "{") t i e ≡ b
         → Gives P (elim b as (λ _. Tried (Noted Made)) [ true ↦ brace_noted_to inside i made (closing t (e - (i + 1)) (i + 1) 0 false) | false ↦ misfit ])
@@ -256,16 +257,19 @@ all_inside t =
 -- ---- the first place
 
 place_inside : (n : ℕ) (u : Unused) → LiesIn n u → place_of u < n
-unfolding LiesIn place_of
+unfolding LiesIn
 place_inside n (bytes_dropped i e) p = let h = p.0 in let g = p.1 in omega arith
 place_inside n (parameter_lost i) p = p
 
 sooner_inside : (n x p : ℕ) (m : Maybe ℕ) → x < n → ((y : ℕ) → m ≡ some y → y < n) → sooner (some x) m ≡ some p → p < n
-unfolding sooner
 sooner_inside n x p none h g q = let e : x ≡ p = cc in omega arith
 sooner_inside n x p (some y) h g q = let e : min x y ≡ p = cc in let l = g y refl in omega arith
 
 pub first_inside : (n : ℕ) (x : List Unused) → AllLieIn n x → (p : ℕ) → first_of x ≡ some p → p < n
-unfolding first_of AllLieIn
+unfolding AllLieIn
 first_inside n [] h p q = absurd (let z : ◌≡◌ {A = ℕ} 0 1 = cc in let y : ⊥ = omega arith in y)
 first_inside n (u ∷ x) h p q = sooner_inside n (place_of u) p (first_of x) (place_inside n u h.0) (first_inside n x h.1) q
+
+pub below_told : (r : Option ℕ) (n : ℕ) (x : List Unused) → AllLieIn n x → place_told r ≡ first_of x → PlaceBelow n r
+below_told (Some p) n x h q = first_inside n x h p (sym q)
+below_told None n x h q = tt

@@ -1,31 +1,35 @@
 -- Scaffolding, for proofs alone: the second look at a template, over places alone: what the code does, and no more. Of a template that was read it gives the
 -- first place of Unused.antt's notes (proofs/Agreed.antt); of others nothing is asked. Assumes nothing.
-use Rattle.std.specs.Prelude.{ℕ, zero, suc, ◌+◌, ◌-◌, ◌≤◌, ◌≡◌, Bool, true, false, not, List, ltb, length}
+use Rattle.std.specs.Prelude.{Option, Some, None, Ok, Err, ◌<◌, ℕ, zero, suc, ◌+◌, ◌-◌, ◌≤◌, ◌≡◌, Bool, true, false, not, List, length}
 use Rattle.buffer.specs.Bytes.{byte}
 use Rattle.buffer.specs.Table.{Maybe, none, some}
 use Rattle.runs.specs.Runs.{stands}
 use Rattle.words.specs.Trying.{Tried, fit, misfit, refused, ◌or_else◌, ◌then◌, repeated, listed}
 use Rattle.words.specs.Words.{parameter_at}
 use Rattle.segments.specs.Segments as segments
-use Rattle.braces.specs.declared.Closing.{Closing}
-use Rattle.braces.specs.Braces.{closing}
+use Rattle.braces.specs.Braces.{Closing, closing}
 use Rattle.building.specs.Reading.{text_at, separator, Top, top_at}
-use Rattle.endings.specs.declared.Ends.{Ends}
-use Rattle.endings.specs.Ending.{end_of, word_end, plain_end}
+use Rattle.endings.specs.Ending.{Ends, end_of, word_end, plain_end}
 use Rattle.unused.specs.declared.Look.{Look}
-use Rattle.unused.specs.declared.Piece.{Piece}
+use Rattle.unused.specs.declared.Seen.{Seen}
 use Rattle.unused.specs.Unused.{sooner, first_of, dropped_from}
 
 -- ---- places
 
--- a number that the code holds: 1,024 stands for no place
-unfoldable pub place_told : ℕ → Maybe ℕ
-place_told n = elim (ltb n 1024) [ true ↦ some n | false ↦ none ]
+-- a place that the code holds, if it holds one
+abbrev pub place_told : Option ℕ → Maybe ℕ
+place_told (Some p) = some p
+place_told None = none
+
+-- one that it holds is below n
+abbrev pub PlaceBelow : ℕ → Option ℕ → Type 0
+PlaceBelow n (Some p) = p < n
+PlaceBelow n None = Unit {0}
 
 -- something that ends there, if it does
-unfoldable pub reaches : {S : Type 0} → Ends → S → Tried S
-reaches (Ends.At j) s = fit s j
-reaches Ends.Nowhere s = misfit
+abbrev pub reaches : {S : Type 0} → Ends → S → Tried S
+reaches (Some j) s = fit s j
+reaches None s = misfit
 
 -- ---- contents
 
@@ -35,20 +39,20 @@ pub record Sight : Type 0 where
   pub asked : Maybe ℕ
   pub takes : Bool
 
-unfoldable pub tell_look : Look → Sight
+abbrev pub tell_look : Look → Sight
 tell_look c = record { unused = place_told c.unused; asked = place_told c.asked; takes = c.takes }
 
 abbrev pub Looker : Type 0
 Looker = ℕ → ℕ → Tried (Maybe ℕ)
 
-unfoldable pub worded : Bool → Sight → Sight
+abbrev pub worded : Bool → Sight → Sight
 worded true c = record { unused = c.unused; asked = c.asked; takes = true }
 worded false c = c
 
-unfoldable pub asking_from : Sight → ℕ → Sight
+abbrev pub asking_from : Sight → ℕ → Sight
 asking_from c i = record { unused = c.unused; asked = sooner (some i) c.asked; takes = c.takes }
 
-unfoldable pub grouping : Sight → Maybe ℕ → Sight
+abbrev pub grouping : Sight → Maybe ℕ → Sight
 grouping c u = record { unused = sooner c.unused u; asked = c.asked; takes = true }
 
 unfoldable pub look_item : Bool → List ℕ → Looker → ℕ → ℕ → Sight → Tried Sight
@@ -57,14 +61,14 @@ look_item even t group e i c =
     or_else λ _. reaches (end_of (parameter_at t i e)) (asking_from c i)
     or_else λ _. group i e then λ u j. fit (grouping c u) j
 
-unfoldable pub lost_if : Bool → Maybe ℕ → Maybe ℕ
+abbrev pub lost_if : Bool → Maybe ℕ → Maybe ℕ
 lost_if true asked = asked
 lost_if false asked = none
 
-unfoldable pub left_by_content : Sight → ℕ → ℕ → Maybe ℕ
+abbrev pub left_by_content : Sight → ℕ → ℕ → Maybe ℕ
 left_by_content c j e = sooner c.unused (sooner (lost_if c.takes c.asked) (first_of (dropped_from j e)))
 
-unfoldable pub no_sight : Sight
+abbrev pub no_sight : Sight
 no_sight = record { unused = none; asked = none; takes = false }
 
 unfoldable pub look_content : Bool → List ℕ → Looker → Looker
@@ -80,10 +84,10 @@ look_piece t brace e i u =
 unfoldable pub look_group : List ℕ → Looker → Looker
 look_group t brace i e = repeated (look_piece t brace e) (e - i) i none
 
-unfoldable pub look_brace_to : Looker → ℕ → Closing → Tried (Maybe ℕ)
-look_brace_to inside i (Closing.At c) = inside (i + 1) c then λ u j. fit u (c + 1)
-look_brace_to inside i Closing.Nowhere = misfit
-look_brace_to inside i Closing.HalfEscape = misfit
+abbrev pub look_brace_to : Looker → ℕ → Closing → Tried (Maybe ℕ)
+look_brace_to inside i (Ok (Some c)) = inside (i + 1) c then λ u j. fit u (c + 1)
+look_brace_to inside i (Ok None) = misfit
+look_brace_to inside i (Err r) = misfit
 
 unfoldable pub look_brace : List ℕ → Looker → Looker
 look_brace t inside i e =
@@ -103,13 +107,13 @@ look_brace_in d even t = look_brace t (look_inside d even t)
 abbrev pub look_group_in : ℕ → Bool → List ℕ → Looker
 look_group_in d even t = look_group t (look_brace_in d even t)
 
-unfoldable pub tell_piece_look : Piece → Tried (Maybe ℕ)
-tell_piece_look (Piece.Fit j u) = fit (place_told u) j
-tell_piece_look Piece.Misfit = misfit
+abbrev pub tell_piece_look : Option Seen → Tried (Maybe ℕ)
+tell_piece_look (Some s) = fit (place_told s.unused) s.end
+tell_piece_look None = misfit
 
-unfoldable pub PieceLooked : ℕ → ℕ → Piece → Type 0
-PieceLooked lo to (Piece.Fit j u) = (lo ≤ j) × (j ≤ to)
-PieceLooked lo to Piece.Misfit = Unit {0}
+abbrev pub PieceLooked : ℕ → ℕ → Option Seen → Type 0
+PieceLooked lo to (Some s) = (lo ≤ s.end) × (s.end ≤ to)
+PieceLooked lo to None = Unit {0}
 
 -- ---- the top level
 

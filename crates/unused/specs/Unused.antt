@@ -1,6 +1,6 @@
 -- What a template leaves unused (document 02, E5): "bytes dropped or a parameter lost". The readers of building/specs/Reading.antt again, in their order,
 -- each with notes beside what it reads; without the notes they are those readers (proofs/Forgetting.antt). Assumes nothing.
-use Rattle.std.specs.Prelude.{ℕ, zero, suc, ◌+◌, ◌-◌, ◌≤◌, ◌<◌, min, Bool, true, false, not, List, [], ◌∷◌, ◌++◌, ltb, length}
+use Rattle.std.specs.Prelude.{Some, None, Ok, Err, ℕ, zero, suc, ◌+◌, ◌-◌, ◌≤◌, ◌<◌, min, Bool, true, false, not, List, [], ◌∷◌, ◌++◌, ltb, length}
 use Rattle.buffer.specs.Bytes.{byte}
 use Rattle.buffer.specs.Table.{Maybe, none, some}
 use Rattle.refusals.specs.declared.Refusal.{Refusal}
@@ -9,9 +9,8 @@ use Rattle.runs.specs.Runs.{stands}
 use Rattle.words.specs.Trying.{Tried, fit, misfit, refused, ◌or_else◌, ◌then◌, repeated, listed}
 use Rattle.words.specs.Words.{specifier_at, parameter_at}
 use Rattle.parts.specs.Parts.{with_specifier, with_parameter}
-use Rattle.braces.specs.declared.Closing.{Closing}
 use Rattle.segments.specs.Segments as segments
-use Rattle.braces.specs.Braces.{closing}
+use Rattle.braces.specs.Braces.{Closing, closing}
 use Rattle.building.specs.Reading.{Made, text_at, inner_at, Taken, nothing, one, several, Content, with_words, with_segment, built, no_content, separator, Group, with_member, with_asked, percent_at, closed, no_group, Top, with_top}
 
 -- ---- what is left unused, and where
@@ -23,23 +22,23 @@ pub data Unused : Type 0 where
   parameter_lost : ℕ → Unused
 
 -- "the place (from 0) of the first dropped byte or, if it comes earlier, of the lost parameter"
-unfoldable pub place_of : Unused → ℕ
+abbrev pub place_of : Unused → ℕ
 place_of (bytes_dropped i e) = i
 place_of (parameter_lost i) = i
 
 -- the earlier of two places, where there are two
-unfoldable pub sooner : Maybe ℕ → Maybe ℕ → Maybe ℕ
+abbrev pub sooner : Maybe ℕ → Maybe ℕ → Maybe ℕ
 sooner none y = y
 sooner (some x) none = some x
 sooner (some x) (some y) = some (min x y)
 
 -- the first place of all that is left unused
-unfoldable pub first_of : List Unused → Maybe ℕ
+abbrev pub first_of : List Unused → Maybe ℕ
 first_of [] = none
 first_of (u ∷ rest) = sooner (some (place_of u)) (first_of rest)
 
 -- "Bytes of its content left unread are dropped": those from i up to e, if there are any
-unfoldable pub dropped_from : ℕ → ℕ → List Unused
+abbrev pub dropped_from : ℕ → ℕ → List Unused
 dropped_from i e = elim (ltb i e) [ true ↦ bytes_dropped i e ∷ [] | false ↦ [] ]
 
 -- parameters that begin at these places, all of them lost
@@ -160,9 +159,9 @@ group_noted t brace_noted i e made =
 
 -- a brace by its closing one: both are used
 unfoldable pub brace_noted_to : NotedReader → ℕ → ℕ → Closing → Tried (Noted Made)
-brace_noted_to inside i made (Closing.At c) = inside (i + 1) c made then λ x j. fit x (c + 1)
-brace_noted_to inside i made Closing.Nowhere = misfit
-brace_noted_to inside i made Closing.HalfEscape = refused Refusal.HalfEscape
+brace_noted_to inside i made (Ok (Some c)) = inside (i + 1) c made then λ x j. fit x (c + 1)
+brace_noted_to inside i made (Ok None) = misfit
+brace_noted_to inside i made (Err r) = refused r
 
 -- a brace tried at i
 unfoldable pub brace_noted : List ℕ → NotedReader → NotedReader

@@ -15,7 +15,7 @@ use Rattle.utf8.proofs.Running.{step_ascii}
 use Rattle.utf8.proofs.Reached.{past_at, told_on, breaks, reached_all}
 
 -- no byte yet
-pub checked_none : (s : List ℕ) (i : ℕ) → Checked s i (i + 0) 0
+pub checked_none : (s : List ℕ) (i : ℕ) → Checked s i i 0
 checked_none s i = (λ z k f g. absurd (omega arith), λ z. absurd (omega arith))
 
 -- one byte more, judged by r
@@ -52,18 +52,14 @@ told_by s j t =
     (subst (λ (b : ℕ). Follows (past s (j + 3)) b (get_or s (j + 2) 0) (reached s (j + 3))) (ap (past s) e ∙ past_at s (j + 1))
     (subst (λ (c : ℕ). Follows (past s (j + 3)) (past s ((j + 3) + 1)) c (reached s (j + 3))) (ap (past s) f ∙ past_at s (j + 2)) t))
 
--- one place more, judged by the four bytes there
-pub checked_more : (s : List ℕ) (from k w r t : ℕ) → (from + k) + 3 < length s → t ≡ max w r
-    → ((x : Awaited) → Follows (get_or s (from + k) 0) (get_or s ((from + k) + 1) 0) (get_or s ((from + k) + 2) 0) x
-    → Judged r (step x (get_or s ((from + k) + 3) 0)))
-    → Checked s (from + 3) (from + 3 + k) w → Checked s (from + 3) (from + 3 + (k + 1)) t
-checked_more s from k w r t h e q p =
-    let j = from + k in
-    let a : from + 3 + k ≡ j + 3 = omega arith in
-    let b : (j + 3) + 1 ≡ from + 3 + (k + 1) = omega arith in
-    subst (λ (m : ℕ). Checked s (from + 3) (from + 3 + (k + 1)) m) (sym e)
-    (subst (λ (m : ℕ). Checked s (from + 3) m (max w r)) b
-    (checked_on s (from + 3) (j + 3) w r h (subst (λ (m : ℕ). Checked s (from + 3) m w) a p) (λ f. q (reached s (j + 3)) (told_by s j f))))
+-- one place more, judged by the four bytes from j on
+pub checked_more : (s : List ℕ) (i j w r t : ℕ) → j + 3 < length s → t ≡ max w r
+    → ((x : Awaited) → Follows (get_or s j 0) (get_or s (j + 1) 0) (get_or s (j + 2) 0) x → Judged r (step x (get_or s (j + 3) 0)))
+    → Checked s i (j + 3) w → Checked s i (j + 1 + 3) t
+checked_more s i j w r t h e q p =
+    let b : (j + 3) + 1 ≡ j + 1 + 3 = omega arith in
+    subst (λ (m : ℕ). Checked s i (j + 1 + 3) m) (sym e)
+    (subst (λ (m : ℕ). Checked s i m (max w r)) b (checked_on s i (j + 3) w r h p (λ f. q (reached s (j + 3)) (told_by s j f))))
 
 -- the three bytes before a place tell what is to come there
 pub told_before : (s : List ℕ) (i : ℕ) → 3 ≤ i → Told s i → Follows (get_or s (i - 3) 0) (get_or s (i - 2) 0) (get_or s (i - 1) 0) (reached s i)

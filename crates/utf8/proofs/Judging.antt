@@ -166,7 +166,7 @@ module _ (c : ℕ) where
   most_f4 e = most_is 0 1 (alike_no c 0xED (λ f. omega arith)) (alike_yes c 0xF4 e)
 
 -- the range l to h is what the numbers say
-abbrev Ranged : ℕ → ℕ → ℕ → Type 0
+abbrev pub Ranged : ℕ → ℕ → ℕ → Type 0
 Ranged c l h = (l ≡ max 0x80 (least_after c)) × (h ≡ min 0xBF (most_after c))
 
 ranges : (c l h x y : ℕ) → least_after c ≡ x → most_after c ≡ y → l ≡ max 0x80 x → h ≡ min 0xBF y → Ranged c l h
@@ -175,7 +175,7 @@ ranges c l h x y e f p q = (p ∙ ap (max 0x80) (sym e), q ∙ ap (min 0xBF) (sy
 plain_range : (c : ℕ) → (c ≡ 0xE0 → ⊥) → (c ≡ 0xF0 → ⊥) → (c ≡ 0xED → ⊥) → (c ≡ 0xF4 → ⊥) → Ranged c 0x80 0xBF
 plain_range c e f g h = ranges c 0x80 0xBF 0 0xF4 (least_plain c e f) (most_plain c g h) refl refl
 
-range_of : (c l h : ℕ) (more : List Range) → Opens c l h more → Ranged c l h
+pub range_of : (c l h : ℕ) (more : List Range) → Opens c l h more → Ranged c l h
 range_of c l h more (two _ f g) = plain_range c (λ e. omega arith) (λ e. omega arith) (λ e. omega arith) (λ e. omega arith)
 range_of c l h more (e0 _ f) =
     ranges c 0xA0 0xBF 0xA0 0xF4 (least_e0 c f) (most_plain c (λ e. omega arith) (λ e. omega arith)) refl refl
@@ -193,7 +193,7 @@ trail_range : (c : ℕ) → c < 0xC0 → Ranged c 0x80 0xBF
 trail_range c h = plain_range c (λ e. omega arith) (λ e. omega arith) (λ e. omega arith) (λ e. omega arith)
 
 -- a place in a range as the numbers give it
-in_range : (l h x y d : ℕ) → l ≡ max 0x80 x → h ≡ min 0xBF y → 0x80 ≤ d → d ≤ 0xBF → x ≤ d → d ≤ y → (l ≤ d) × (d ≤ h)
+pub in_range : (l h x y d : ℕ) → l ≡ max 0x80 x → h ≡ min 0xBF y → 0x80 ≤ d → d ≤ 0xBF → x ≤ d → d ≤ y → (l ≤ d) × (d ≤ h)
 in_range l h x y d e f p q u v = (omega arith, omega arith)
 
 of_range : (l h x y d : ℕ) → l ≡ max 0x80 x → h ≡ min 0xBF y → l ≤ d → d ≤ h → (0x80 ≤ d) × (d ≤ 0xBF) × (x ≤ d) × (d ≤ y)

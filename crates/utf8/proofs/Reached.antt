@@ -2,12 +2,12 @@
 use mathlib.Core.Path.{◌≡◌, refl, ap, sym, ◌∙◌, subst}
 use mathlib.Core.Bool.{true, false}
 use mathlib.Core.Logic.{◌⊎◌, inl, inr}
-use mathlib.Core.List.{List, [], ◌∷◌}
+use mathlib.Core.List.{List, [], ◌∷◌, ◌++◌, append_assoc}
 use Prim.Native.Nat.{ℕ, zero, suc, ◌+◌, ◌<◌, ◌≤◌}
 use native.Mathlib.Numerals.{add-one}
 use native.Mathlib.Omega.{arith}
-use lib.ListN.{length, take, drop, get_or, take-append-drop}
-use lib.Seq.{take-suc, take-length}
+use lib.ListN.{length, take, drop, get_or, take-append-drop, length-append}
+use lib.Seq.{take-suc, take-length, length-take-le, take_at, drop_at}
 use Rattle.utf8.specs.Utf8.{Awaited, awaited, broken, step, run, complete, valid}
 use Rattle.utf8.specs.Windows.{reached, top_of, past, Lives, Follows, ended, Told, Unbroken, due_after}
 use Rattle.utf8.proofs.Running.{run_append, run_broken, step_broken, step_ascii}
@@ -107,15 +107,6 @@ pub ascii_on : (s : List ℕ) (k : ℕ) → k < length s → get_or s k 0 < 0x80
 ascii_on s k h b e =
     reached_on s k h ∙ ap (λ (x : Awaited). step x (get_or s k 0)) e ∙ step_ascii (get_or s k 0) (omega arith)
 
-pub ascii_through : (s : List ℕ) (i e n : ℕ) → i + n ≡ e → e ≤ length s → ((k : ℕ) → i ≤ k → k < e → get_or s k 0 < 0x80)
-    → reached s i ≡ awaited [] → reached s e ≡ awaited []
-ascii_through s i e zero h g f r =
-    let z : e ≡ i = omega arith in
-    ap (reached s) z ∙ r
-ascii_through s i e (suc n) h g f r =
-    ascii_through s (i + 1) e n (omega arith) g (λ k m. f k (omega arith))
-    (ascii_on s i (omega arith) (f i (omega arith) (omega arith)) r)
-
 ascii_run : (s : List ℕ) → top_of s < 0x80 → run (awaited []) s ≡ awaited []
 ascii_run [] h = refl
 ascii_run (b ∷ s) h = ap (λ (x : Awaited). run x s) (step_ascii b (omega (arith, h))) ∙ ascii_run s (omega (arith, h))
@@ -123,3 +114,17 @@ ascii_run (b ∷ s) h = ap (λ (x : Awaited). run x s) (step_ascii b (omega (ari
 -- ASCII is UTF-8
 pub ascii_valid : (s : List ℕ) → top_of s < 0x80 → valid s ≡ true
 ascii_valid s h = ap complete (ascii_run s h)
+
+-- ASCII after a whole character: what comes behind it is left
+pub ascii_over : (s : List ℕ) (i : ℕ) (x rest : List ℕ) → drop i s ≡ x ++ rest → i ≤ length s → reached s i ≡ awaited [] → top_of x < 0x80
+    → (drop (i + length x) s ≡ rest) × (reached s (i + length x) ≡ awaited [])
+ascii_over s i x rest e h r t =
+    let l : length (take i s ++ x) ≡ i + length x = omega (arith, length-append (take i s) x, length-take-le i s h) in
+    let z : s ≡ (take i s ++ x) ++ rest = sym (take-append-drop i s) ∙ ap (λ (y : List ℕ). take i s ++ y) e ∙ sym (append_assoc (take i s) x rest) in (
+      ap (drop (i + length x)) z ∙ drop_at (take i s ++ x) rest (i + length x) l,
+      ap (λ (y : List ℕ). run (awaited []) (take (i + length x) y)) z
+          ∙ ap (run (awaited [])) (take_at (take i s ++ x) rest (i + length x) l)
+          ∙ run_append (awaited []) (take i s) x
+          ∙ ap (λ (y : Awaited). run y x) r
+          ∙ ascii_run x t,
+    )

@@ -3,15 +3,17 @@ use mathlib.Core.Path.{◌≡◌, refl, ap, sym, ◌∙◌, subst}
 use mathlib.Core.Bool.{Bool, true, false}
 use mathlib.Core.Logic.{◌⊎◌, inl, inr}
 use mathlib.Core.List.{List, [], ◌∷◌}
-use Prim.Native.Nat.{ℕ, ◌/◌, ◌+◌, ◌-◌, ◌<◌, ◌≤◌}
+use Prim.Native.Nat.{ℕ, min, max, ◌/◌, ◌+◌, ◌-◌, ◌<◌, ◌≤◌}
 use native.Mathlib.Decide.{dec_lt}
 use native.Mathlib.Omega.{arith}
 use lib.ListN.{length, get_or}
+use Rattle.std.specs.Prelude.{Option}
+use Rattle.std.specs.Bool.{then_some}
 use Rattle.utf8.specs.Utf8.{Range, ◌to◌, trail, Awaited, awaited, broken, begun, forms, step, run, valid}
-use Rattle.utf8.specs.Windows.{reached, past, Lives, Opens, two, e0, three, ed, three_more, f0, four, f4, Whole, alike, due_after}
+use Rattle.utf8.specs.Windows.{reached, past, Lives, Opens, two, e0, three, ed, three_more, f0, four, f4, Whole, EndsBy, alike, due_after}
 use Rattle.utf8.proofs.Following.{First, alone, opens, none_below, none_above, first_byte, opens_bounds, step_in, step_below, step_above}
-use Rattle.utf8.proofs.Judging.{not_both, goes, going, small_alike}
-use Rattle.utf8.proofs.Leading.{leads_none_below}
+use Rattle.utf8.proofs.Judging.{not_both, goes, going, small_alike, least_after, most_after, range_of, in_range}
+use Rattle.utf8.proofs.Leading.{leads_two, leads_none_below, leads_none_above}
 use Rattle.utf8.proofs.Running.{step_broken}
 use Rattle.utf8.proofs.Reached.{reached_on, past_at, broken_invalid, cut_off}
 
@@ -36,46 +38,51 @@ off_range l h d more f g e =
     farther k = omega arith
 
 -- the second byte of a character of three or four
-second_out : (a b : ℕ) (x : Awaited) → First a x → 0xE0 ≤ a → a ≤ 0xF4 → alike (b / 0x40) 2 ≡ 0 → step x b ≡ broken
-second_out a b x (alone _ f) g h e = absurd (omega arith)
-second_out a b x (opens _ l k more o) g h e = let w = opens_bounds a l k more o in off_range l k b more w.2 w.3 e
-second_out a b x (none_below _ f k) g h e = absurd (omega arith)
-second_out a b x (none_above _ f) g h e = absurd (omega arith)
+module _ (a b : ℕ) (g : 0xE0 ≤ a) (h : a ≤ 0xF4) where
+  second_out : (x : Awaited) → First a x → alike (b / 0x40) 2 ≡ 0 → step x b ≡ broken
+  second_out x (alone _ f) e = absurd (omega arith)
+  second_out x (opens _ l k more o) e = let w = opens_bounds a l k more o in off_range l k b more w.2 w.3 e
+  second_out x (none_below _ f k) e = absurd (omega arith)
+  second_out x (none_above _ f) e = absurd (omega arith)
 
-pub second_none : (a b : ℕ) → 0xE0 ≤ a → a ≤ 0xF4 → alike (b / 0x40) 2 ≡ 0 → step (begun forms a) b ≡ broken
-second_none a b g h e = second_out a b (begun forms a) (first_byte a) g h e
+  second_in : (x : Awaited) → First a x → 0x80 ≤ b → b ≤ 0xBF → least_after a ≤ b → b ≤ most_after a → Lives (step x b)
+  second_in x (alone _ f) p q r s = absurd (omega arith)
+  second_in x (opens _ l k more o) p q r s =
+      let v = range_of a l k more o in
+      let w = in_range l k (least_after a) (most_after a) b v.0 v.1 p q r s in
+      subst Lives (sym (step_in l k b more w.0 w.1)) tt
+  second_in x (none_below _ f k) p q r s = absurd (omega arith)
+  second_in x (none_above _ f) p q r s = absurd (omega arith)
 
-plainly : (a b l h : ℕ) (more : List Range) → Opens a l h more → (a ≡ 0xE0 → ⊥) → (a ≡ 0xED → ⊥) → (a ≡ 0xF0 → ⊥) → (a ≡ 0xF4 → ⊥)
-    → 0x80 ≤ b → b ≤ 0xBF → step (awaited (l to h ∷ more)) b ≡ awaited more
-plainly a b l h more (two _ f g) p q r s u v = step_in 0x80 0xBF b [] u v
-plainly a b l h more (e0 _ f) p q r s u v = absurd (p f)
-plainly a b l h more (three _ f g) p q r s u v = step_in 0x80 0xBF b (trail ∷ []) u v
-plainly a b l h more (ed _ f) p q r s u v = absurd (q f)
-plainly a b l h more (three_more _ f g) p q r s u v = step_in 0x80 0xBF b (trail ∷ []) u v
-plainly a b l h more (f0 _ f) p q r s u v = absurd (r f)
-plainly a b l h more (four _ f g) p q r s u v = step_in 0x80 0xBF b (trail ∷ trail ∷ []) u v
-plainly a b l h more (f4 _ f) p q r s u v = absurd (s f)
+  second_low : (x : Awaited) → First a x → 0x80 ≤ b → b < least_after a → step x b ≡ broken
+  second_low x (alone _ f) p q = absurd (omega arith)
+  second_low x (opens _ l k more o) p q = let v = range_of a l k more o in step_below l k b more (lower l (least_after a) v.0 q)
+    where
+      lower : (l n : ℕ) → l ≡ max 0x80 n → b < n → b < l
+      lower l n e q = omega arith
+  second_low x (none_below _ f k) p q = absurd (omega arith)
+  second_low x (none_above _ f) p q = absurd (omega arith)
 
-second_in : (a b : ℕ) (x : Awaited) → First a x → 0xE0 ≤ a → a ≤ 0xF4
-    → (a ≡ 0xE0 → ⊥) → (a ≡ 0xED → ⊥) → (a ≡ 0xF0 → ⊥) → (a ≡ 0xF4 → ⊥) → 0x80 ≤ b → b ≤ 0xBF → Lives (step x b)
-second_in a b x (alone _ f) g h p q r s u v = absurd (omega arith)
-second_in a b x (opens _ l k more o) g h p q r s u v = subst Lives (sym (plainly a b l k more o p q r s u v)) tt
-second_in a b x (none_below _ f k) g h p q r s u v = absurd (omega arith)
-second_in a b x (none_above _ f) g h p q r s u v = absurd (omega arith)
+  second_high : (x : Awaited) → First a x → most_after a < b → step x b ≡ broken
+  second_high x (alone _ f) q = absurd (omega arith)
+  second_high x (opens _ l k more o) q = let v = range_of a l k more o in step_above l k b more (higher k (most_after a) v.1 q)
+    where
+      higher : (k n : ℕ) → k ≡ min 0xBF n → n < b → k < b
+      higher k n e q = omega arith
+  second_high x (none_below _ f k) q = absurd (omega arith)
+  second_high x (none_above _ f) q = absurd (omega arith)
 
-pub second_plain : (a b : ℕ) → 0xE0 ≤ a → a ≤ 0xF4 → (a ≡ 0xE0 → ⊥) → (a ≡ 0xED → ⊥) → (a ≡ 0xF0 → ⊥) → (a ≡ 0xF4 → ⊥)
-    → 0x80 ≤ b → b ≤ 0xBF → Lives (step (begun forms a) b)
-second_plain a b g h p q r s u v = second_in a b (begun forms a) (first_byte a) g h p q r s u v
+  pub second_none : alike (b / 0x40) 2 ≡ 0 → step (begun forms a) b ≡ broken
+  second_none e = second_out (begun forms a) (first_byte a) e
 
--- where the first byte's line is known
-pub second_lives : (a b l h : ℕ) (more : List Range) → begun forms a ≡ awaited (l to h ∷ more) → l ≤ b → b ≤ h → Lives (step (begun forms a) b)
-second_lives a b l h more e f g = subst Lives (sym (ap (λ (x : Awaited). step x b) e ∙ step_in l h b more f g)) tt
+  pub second_lives : 0x80 ≤ b → b ≤ 0xBF → least_after a ≤ b → b ≤ most_after a → Lives (step (begun forms a) b)
+  second_lives p q r s = second_in (begun forms a) (first_byte a) p q r s
 
-pub second_below : (a b l h : ℕ) (more : List Range) → begun forms a ≡ awaited (l to h ∷ more) → b < l → step (begun forms a) b ≡ broken
-second_below a b l h more e f = ap (λ (x : Awaited). step x b) e ∙ step_below l h b more f
+  pub second_below : 0x80 ≤ b → b < least_after a → step (begun forms a) b ≡ broken
+  second_below p q = second_low (begun forms a) (first_byte a) p q
 
-pub second_above : (a b l h : ℕ) (more : List Range) → begun forms a ≡ awaited (l to h ∷ more) → h < b → step (begun forms a) b ≡ broken
-second_above a b l h more e f = ap (λ (x : Awaited). step x b) e ∙ step_above l h b more f
+  pub second_above : most_after a < b → step (begun forms a) b ≡ broken
+  second_above q = second_high (begun forms a) (first_byte a) q
 
 -- the text is broken, or these bytes are to come
 abbrev pub After : List Range → Awaited → Type 0
@@ -203,13 +210,14 @@ module _ (s : List ℕ) (i : ℕ) where
       ∙ reached_on s (i + 3) (omega arith)
       ∙ ap (λ (x : Awaited). step x (get_or s (i + 3) 0)) (reached_three (omega arith) e)
 
-  -- what n bytes are tells what r says of the text
-  pub taken : (n r : ℕ) (t : List ℕ) → i + n ≤ length s → reached s (i + n) ≡ run (awaited []) t → Whole n t r
-      → (r ≡ 0 → valid s ≡ false) × (0 < r → (i + r ≤ length s) × (reached s (i + r) ≡ awaited []))
-  taken n r t h e w = (
-    λ z. broken_invalid s (i + n) (e ∙ w.0 z),
-    λ z. (let v = w.1 z in (subst (λ (m : ℕ). i + m ≤ length s) (sym v.0) h, ap (λ (m : ℕ). reached s (i + m)) v.0 ∙ e ∙ v.1)),
-  )
+  -- what the n bytes t from i on are tells where a character ends
+  module _ (n : ℕ) (t : List ℕ) (h : i + n ≤ length s) (e : reached s (i + n) ≡ run (awaited []) t) where
+    by_some : (w : Bool) → Whole t w → 0 < n → EndsBy s (i + 1) (then_some w (i + n))
+    by_some true w g = (omega arith, h, e ∙ w)
+    by_some false w g = broken_invalid s (i + n) (e ∙ w)
+
+    pub taken : (o : Option ℕ) (w : Bool) → Whole t w → o ≡ then_some w (i + n) → 0 < n → EndsBy s (i + 1) o
+    taken o w v q g = subst (EndsBy s (i + 1)) (sym q) (by_some w v g)
 
 -- too few bytes are left for the character that a byte begins
 module _ (s : List ℕ) (i : ℕ) (h : i < length s) where
@@ -231,6 +239,72 @@ one_or_none d r e n = sym e ∙ one r (small_alike (d / 0x40) 2 r e) n
   where
     one : (r : ℕ) → r ≤ 1 → (r ≡ 0 → ⊥) → r ≡ 1
     one r h n = omega arith
+
+-- a number that is 0 or 1, and not 1
+pub none_or_one : (d r : ℕ) → r ≡ alike (d / 0x40) 2 → (r ≡ 1 → ⊥) → alike (d / 0x40) 2 ≡ 0
+none_or_one d r e n = sym e ∙ none r (small_alike (d / 0x40) 2 r e) n
+  where
+    none : (r : ℕ) → r ≤ 1 → (r ≡ 1 → ⊥) → r ≡ 0
+    none r h n = omega arith
+
+-- two, three and four bytes of which the first begins a character of so many
+module _ (a b : ℕ) where
+  -- the second byte, after the first
+  second : step (step (awaited []) a) b ≡ step (begun forms a) b
+  second = ap (λ (x : Awaited). step x b) (step_first a)
+
+  pub two_whole : 0xC2 ≤ a → a < 0xE0 → alike (b / 0x40) 2 ≡ 1 → run (awaited []) (a ∷ b ∷ []) ≡ awaited []
+  two_whole h g e = let w = going b e in ap (λ (x : Awaited). step x b) (step_first a ∙ leads_two a h (omega arith)) ∙ step_in 0x80 0xBF b [] w.0 w.1
+
+  pub two_low : 0x80 ≤ a → a < 0xC2 → run (awaited []) (a ∷ b ∷ []) ≡ broken
+  two_low h g = ap (λ (x : Awaited). step x b) (step_first a ∙ leads_none_below a h g) ∙ step_broken b
+
+  pub two_off : 0xC2 ≤ a → a < 0xE0 → alike (b / 0x40) 2 ≡ 0 → run (awaited []) (a ∷ b ∷ []) ≡ broken
+  two_off h g e = ap (λ (x : Awaited). step x b) (step_first a ∙ leads_two a h (omega arith)) ∙ off_range 0x80 0xBF b [] (omega arith) (omega arith) e
+
+  module _ (c : ℕ) where
+    second_breaks : step (begun forms a) b ≡ broken → step (step (step (awaited []) a) b) c ≡ broken
+    second_breaks e = ap (λ (x : Awaited). step x c) (second ∙ e) ∙ step_broken c
+
+    module _ (h : 0xE0 ≤ a) (g : a < 0xF0) where
+      pub three_whole : Lives (step (begun forms a) b) → alike (c / 0x40) 2 ≡ 1 → run (awaited []) (a ∷ b ∷ c ∷ []) ≡ awaited []
+      three_whole v e = ap (λ (x : Awaited). step x c) second ∙ lives_on _ c [] (after_three a b h g) v e
+
+      pub three_off : alike (c / 0x40) 2 ≡ 0 → run (awaited []) (a ∷ b ∷ c ∷ []) ≡ broken
+      three_off e = ap (λ (x : Awaited). step x c) second ∙ off _ c [] (after_three a b h g) e
+
+      pub three_second : step (begun forms a) b ≡ broken → run (awaited []) (a ∷ b ∷ c ∷ []) ≡ broken
+      three_second e = second_breaks e
+
+    module _ (d : ℕ) (h : 0xF0 ≤ a) where
+      third_breaks : step (step (step (awaited []) a) b) c ≡ broken → run (awaited []) (a ∷ b ∷ c ∷ d ∷ []) ≡ broken
+      third_breaks e = ap (λ (x : Awaited). step x d) e ∙ step_broken d
+
+      pub four_whole : Lives (step (begun forms a) b) → alike (c / 0x40) 2 ≡ 1 → alike (d / 0x40) 2 ≡ 1 → run (awaited []) (a ∷ b ∷ c ∷ d ∷ []) ≡ awaited []
+      four_whole v e f =
+          let third = lives_on _ c (trail ∷ []) (after_four a b h) v e in
+          ap (λ (x : Awaited). step (step x c) d) second ∙ lives_on _ d [] (inr third) (subst Lives (sym third) tt) f
+
+      pub four_high : 0xF4 < a → run (awaited []) (a ∷ b ∷ c ∷ d ∷ []) ≡ broken
+      four_high g = third_breaks (second_breaks (ap (λ (x : Awaited). step x b) (leads_none_above a g) ∙ step_broken b))
+
+      pub four_off : alike (d / 0x40) 2 ≡ 0 → run (awaited []) (a ∷ b ∷ c ∷ d ∷ []) ≡ broken
+      four_off e = ap (λ (x : Awaited). step (step x c) d) second ∙ off _ d [] (next _ c (trail ∷ []) (after_four a b h)) e
+
+      pub four_third : alike (c / 0x40) 2 ≡ 0 → run (awaited []) (a ∷ b ∷ c ∷ d ∷ []) ≡ broken
+      four_third e = third_breaks (ap (λ (x : Awaited). step x c) second ∙ off _ c (trail ∷ []) (after_four a b h) e)
+
+      pub four_second : step (begun forms a) b ≡ broken → run (awaited []) (a ∷ b ∷ c ∷ d ∷ []) ≡ broken
+      four_second e = third_breaks (second_breaks e)
+
+-- a text that is too short for a character
+pub short : (s : List ℕ) (i e : ℕ) (w : Bool) (o : Option ℕ) → w ≡ false → o ≡ then_some w e → valid s ≡ false → EndsBy s i o
+short s i e w o f q v = subst (EndsBy s i) (sym (q ∙ ap (λ (t : Bool). then_some t e) f)) v
+
+-- what both outcomes of a test say
+pub whole_by : (t : List ℕ) (w : Bool) → (w ≡ true → run (awaited []) t ≡ awaited []) → (w ≡ false → run (awaited []) t ≡ broken) → Whole t w
+whole_by t true f g = f refl
+whole_by t false f g = g refl
 
 pub not_so : false ≡ true → ⊥
 not_so e = subst So (sym e) tt

@@ -1,5 +1,5 @@
 -- Scaffolding, for proofs alone: what the three bytes before a place tell of what may come there, in terms of table 3-7. Assumes nothing.
-use Rattle.std.specs.Prelude.{ℕ, min, max, ◌+◌, ◌-◌, ◌<◌, ◌≤◌, ◌≡◌, false, List, [], ◌∷◌, take, get_or}
+use Rattle.std.specs.Prelude.{ℕ, min, max, ◌+◌, ◌-◌, ◌<◌, ◌≤◌, ◌≡◌, Bool, true, false, Option, Some, None, List, [], ◌∷◌, length, take, get_or}
 use Rattle.utf8.specs.Utf8.{Range, ◌to◌, trail, Awaited, awaited, broken, run, valid}
 
 -- what the first k bytes of a text leave to come
@@ -51,9 +51,15 @@ Judged r x = (r ≡ 0 → Lives x) × (0 < r → x ≡ broken)
 abbrev pub Checked : List ℕ → ℕ → ℕ → ℕ → Type 0
 Checked s i e r = (r ≡ 0 → Unbroken s i e) × (0 < r → valid s ≡ false)
 
--- n says that these n bytes are a character, 0 that they are none
-abbrev pub Whole : ℕ → List ℕ → ℕ → Type 0
-Whole n t r = (r ≡ 0 → run (awaited []) t ≡ broken) × (0 < r → (r ≡ n) × (run (awaited []) t ≡ awaited []))
+-- `true` says that these bytes are a character, `false` that they are none
+abbrev pub Whole : List ℕ → Bool → Type 0
+Whole t true = run (awaited []) t ≡ awaited []
+Whole t false = run (awaited []) t ≡ broken
+
+-- `Some e` says that a character of the text ends at e, at `least` or after it; `None` that the text is broken
+abbrev pub EndsBy : List ℕ → ℕ → Option ℕ → Type 0
+EndsBy s least (Some e) = (least ≤ e) × (e ≤ length s) × (reached s e ≡ awaited [])
+EndsBy s least None = valid s ≡ false
 
 -- the greatest of some bytes, 0 where there are none
 abbrev pub top_of : List ℕ → ℕ

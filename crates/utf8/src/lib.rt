@@ -12,6 +12,7 @@ use whole::characters_to;
 
 mod ascii;
 mod blocks;
+pub mod ones;
 mod whole;
 mod windows;
 
@@ -25,7 +26,7 @@ const ROOM: usize = 38;
 pub fn is_ascii(s: &[u8]) -> bool
     ensures { result ≡ ltb (top_of s.now) 0x80 }
 {
-    greatest(s, 0, s.len()) < 0x80
+    greatest(s) < 0x80
 }
 
 // Whether `s` is UTF-8.
@@ -33,29 +34,22 @@ pub fn is_utf8(s: &[u8]) -> bool
     ensures { result ≡ valid s.now }
 {
     let i = ascii_end(s);
-    let n = s.len() - i;
-    if n < STRIDE {
-        if greatest(s, i, n) < 0x80 {
-            return true;
-        }
-    }
-    let first = characters_to(s, i, start(s.len(), i));
-    if first == 0 {
-        return false;
-    }
-    if s.len() <= first {
+    if s.len() - i < STRIDE && greatest(&s[i..]) < 0x80 {
         return true;
     }
-    sound_from(s, first)
+    let Some(first) = characters_to(s, i, start(s.len(), i)) else {
+        return false;
+    };
+    s.len() <= first || sound_from(s, first)
 }
 
 // Where the blocks of ASCII at the front of a text end.
 fn ascii_end(s: &[u8]) -> usize
     ensures { (result ≤ length s.now) × (reached s.now result ≡ awaited []) }
 {
-    let mut i: usize = 0;
-    while STRIDE <= s.len() - i {
-        if 0x7F < greatest(s, i, STRIDE) {
+    let mut i = 0;
+    for stride in s.chunks_exact(STRIDE) {
+        if 0x7F < greatest(stride) {
             return i;
         }
         i += STRIDE;

@@ -1,16 +1,13 @@
 -- What a call answers, by the length of the text; what is visible is no longer than the text. Assumes nothing.
 use Prim.Native.Nat.{ℕ, zero, suc, ◌<◌, ◌≤◌}
-use mathlib.Core.Path.{◌≡◌, ap, sym, ◌∙◌}
+use mathlib.Core.Path.{◌≡◌, ap}
 use mathlib.Core.List.{List, [], ◌∷◌}
-use native.Mathlib.Nat.{zero-add}
 use native.Mathlib.Omega.{arith}
 use lib.ListN.{length}
 use borrow.Author.Tests.{lt-ltb, le-ltb}
-use Rattle.buffer.specs.Buffer.{Puts, Writes}
-use Rattle.buffer.proofs.Fitting.{written_fits}
 use Rattle.refusals.specs.declared.Refusal.{Refusal}
 use Rattle.colour.specs.Sequences.{sequence_length, unless_sequence, passing, visible}
-use Rattle.packing.specs.declared.Answer.{Answer}
+use Rattle.std.specs.Prelude.{Err}
 use Rattle.answer.specs.Answers.{Outcome, refused, in_room, answer_of, buffer_after}
 use Rattle.visible.specs.Visible.{too_long, visible_outcome}
 
@@ -23,7 +20,7 @@ unfolding visible_outcome
 too_long_lem s room h = rw (le-ltb (length s) too_long h, visible_outcome)
 
 -- an outcome that is a refusal without a length
-pub refused_answer : {o : Outcome} → refused Refusal.NotASheet ≡ o → Answer.Refused Refusal.NotASheet ≡ answer_of o
+pub refused_answer : {o : Outcome} → refused Refusal.NotASheet ≡ o → Err Refusal.NotASheet ≡ answer_of o
 unfolding answer_of
 refused_answer e = ap answer_of e
 
@@ -44,7 +41,3 @@ passing_shorter zero (b ∷ s) = by (sequence_length (b ∷ s)) (λ k. passing_s
 pub visible_shorter : (s : List ℕ) → length (visible s) ≤ length s
 unfolding visible
 visible_shorter s = passing_shorter 0 s
-
--- what was put where it fits, as a call that writes says it
-pub put_fits : (d d' x : List ℕ) (r : ℕ) → length x ≤ length d → Puts d d' 0 x r → Writes d d' x r
-put_fits d d' x r h p = (p.0 ∙ zero-add (length x), p.1 ∙ sym (written_fits d x h))

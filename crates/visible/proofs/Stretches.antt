@@ -1,15 +1,12 @@
 -- What is visible, stretch by stretch: the bytes up to a colour sequence stay, and the sequence is passed over. Assumes nothing.
-use mathlib.Core.Path.{◌≡◌, refl, ap, sym, ◌∙◌}
-use mathlib.Core.Bool.{Bool, true, false}
-use mathlib.Core.List.{List, [], ◌∷◌, ◌++◌, append_assoc}
-use Prim.Native.Nat.{ℕ, zero, suc, ◌+◌, ◌-◌, ◌<◌, ◌≤◌}
-use native.Mathlib.Omega.{arith}
-use lib.ListN.{length, take, drop, get_or, take-append-drop, length-append, length-drop, drop_of_length-le}
+use Rattle.std.specs.Prelude.{Option, Some, None, MatchOption, unwrap_or}
+use Rattle.std.proofs.Common.{ℕ, zero, suc, ◌+◌, ◌-◌, ◌<◌, ◌≤◌, ◌≡◌, ◌≢◌, Bool, true, false, List, [], ◌∷◌, ◌++◌, refl, ap, sym, subst, ◌∙◌, length, take, drop, get_or, append_assoc, length-drop, arith}
 use lib.Dec.{ltb}
+use lib.Seq.{drop-nil}
 use borrow.Author.Tests.{ltb-true, ltb-false}
-use lib.Seq.{length-take-le, take_at, drop_at, drop-drop, drop-nil}
+use Rattle.std.proofs.lemmas.List.{take_all, take_more}
 use Rattle.buffer.specs.Bytes.{part}
-use Rattle.buffer.proofs.Parts.{drop_step, part_snoc, part_length, part_end}
+use Rattle.buffer.proofs.Parts.{drop_step}
 use Rattle.colour.specs.Sequences.{sequence_length, unless_sequence, passing, visible}
 
 -- ---- one place
@@ -36,80 +33,76 @@ over (b ∷ s) = by (sequence_length (b ∷ s)) refl
     by zero e = refl
     by (suc n) e = ap (λ (n : ℕ). unless_sequence n b (λ k. passing k s)) e ∙ passing_drop n s
 
-pub over_at : (s : List ℕ) (e k : ℕ) → k ≡ sequence_length (drop e s) → passing 0 (drop e s) ≡ passing 0 (drop (e + k) s)
-over_at s e k h = over (drop e s) ∙ ap (λ (n : ℕ). passing 0 (drop n (drop e s))) (sym h) ∙ ap (passing 0) (drop-drop k e s)
-
 passing_nil : passing 0 [] ≡ []
 unfolding passing
 passing_nil = refl
 
+pub visible_none : (s : List ℕ) → length s ≡ 0 → visible s ≡ []
+unfolding visible passing
+visible_none [] h = refl
+visible_none (b ∷ s) h = absurd (omega arith)
+
+-- what is visible of a text is what is visible of it without the sequence that begins it
+pub past : (s : List ℕ) → visible s ≡ visible (drop (sequence_length s) s)
+unfolding visible
+past s = over s
+
+-- the bytes from n on, as the code has them
+pub rest_part : (s : List ℕ) (n : ℕ) → part n (length s) s ≡ drop n s
+rest_part s n = take_all (length s - n) (drop n s) (omega (arith, length-drop n s))
+
 -- ---- stretches
 
--- what is visible from i on is the stretch up to e, and what is visible from there on
-abbrev pub Stays : List ℕ → ℕ → ℕ → Type 0
-Stays s i e = passing 0 (drop i s) ≡ part i e s ++ passing 0 (drop e s)
+-- what is visible is the first n bytes, and what is visible behind them
+abbrev pub Stays : List ℕ → ℕ → Type 0
+Stays s n = visible s ≡ take n s ++ visible (drop n s)
 
-pub stretch_start : (s : List ℕ) (i : ℕ) → Stays s i i
-stretch_start s i = ap (λ (l : List ℕ). l ++ passing 0 (drop i s)) (sym (part_end s i))
+pub stretch_start : (s : List ℕ) → Stays s 0
+stretch_start s = refl
 
-pub stretch_next : (s : List ℕ) (i e : ℕ) → i ≤ e → e < length s → sequence_length (drop e s) ≡ 0 → Stays s i e → Stays s i (e + 1)
-stretch_next s i e h g z v =
-    let d = drop_step s e g in
-    v
-    ∙ ap (λ (l : List ℕ). part i e s ++ l) (ap (passing 0) d ∙ stays (get_or s e 0) (drop (e + 1) s) (ap sequence_length (sym d) ∙ z))
-    ∙ sym (append_assoc (part i e s) (get_or s e 0 ∷ []) (passing 0 (drop (e + 1) s)))
-    ∙ ap (λ (l : List ℕ). l ++ passing 0 (drop (e + 1) s)) (sym (part_snoc s i e h g))
-
--- ---- n bytes of what is visible are told, and the text is read up to i
-
-pub record Reached (s : List ℕ) (n i : ℕ) : Type 0 where
-  pub inside : i ≤ length s
-  pub fewer : n ≤ i
-  pub within : n ≤ length (visible s)
-  pub rest : drop n (visible s) ≡ passing 0 (drop i s)
-
-pub reached_start : (s : List ℕ) → Reached s 0 0
+pub stretch_next : (s : List ℕ) (n : ℕ) → n < length s → sequence_length (drop n s) ≡ 0 → Stays s n → Stays s (n + 1)
 unfolding visible
-reached_start s = record { inside = omega arith; fewer = omega arith; within = omega arith; rest = refl }
+stretch_next s n h z v =
+    let d = drop_step s n h in
+    v
+    ∙ ap (λ (l : List ℕ). take n s ++ l) (ap (passing 0) d ∙ stays (get_or s n 0) (drop (n + 1) s) (ap sequence_length (sym d) ∙ z))
+    ∙ sym (append_assoc (take n s) (get_or s n 0 ∷ []) (passing 0 (drop (n + 1) s)))
+    ∙ ap (λ (l : List ℕ). l ++ passing 0 (drop (n + 1) s)) (sym (take_more s n 0 h))
 
--- a stretch further
-pub record Stretched (s : List ℕ) (n i e : ℕ) : Type 0 where
-  pub front : take (n + (e - i)) (visible s) ≡ take n (visible s) ++ part i e s
-  pub reached : Reached s (n + (e - i)) e
+-- where no sequence begins before n
+all_stay : (s : List ℕ) (n : ℕ) → n ≤ length s → ((k : ℕ) → k < n → sequence_length (drop k s) ≡ 0) → Stays s n
+all_stay s zero h z = stretch_start s
+all_stay s (suc n) h z =
+    let e : n + 1 ≡ suc n = omega arith in
+    subst (Stays s) e (stretch_next s n (omega arith) (z n (omega arith)) (all_stay s n (omega arith) (λ k l. z k (omega arith))))
 
-pub stretched : (s : List ℕ) (n i e : ℕ) → Reached s n i → i ≤ e → e ≤ length s → Stays s i e → Stretched s n i e
-stretched s n i e w h g v =
-    let x = part i e s in
-    let r = passing 0 (drop e s) in
-    let y = take n (visible s) ++ x in
-    let f : visible s ≡ y ++ r =
-    sym (take-append-drop n (visible s)) ∙ ap (λ (l : List ℕ). take n (visible s) ++ l) (w.rest ∙ v) ∙ sym (append_assoc (take n (visible s)) x r) in
-    let l : length y ≡ n + (e - i) = omega (arith, length-append (take n (visible s)) x, length-take-le n (visible s) w.within, part_length s i e h g) in
-    let m : length (visible s) ≡ length y + length r = ap length f ∙ length-append y r in
-    record {
-      front = ap (take (n + (e - i))) f ∙ take_at y r (n + (e - i)) l;
-      reached = record {
-        inside = g;
-        fewer = omega (arith, w.fewer);
-        within = omega arith;
-        rest = ap (drop (n + (e - i))) f ∙ drop_at y r (n + (e - i)) l;
-      };
-    }
+-- a stretch as a search for the first sequence has it
+pub record Stretch (s : List ℕ) (n : ℕ) : Type 0 where
+  pub value : Stays s n
+  pub within : n ≤ length s
+  pub before_sequence : n < length s → 0 < sequence_length (drop n s)
 
--- a sequence further
-pub passed : (s : List ℕ) (n e k : ℕ) → Reached s n e → k ≡ sequence_length (drop e s) → e + k ≤ length s → Reached s n (e + k)
-passed s n e k w z g = record { inside = g; fewer = omega (arith, w.fewer); within = w.within; rest = w.rest ∙ over_at s e k z }
+pub stretch_found : (s : List ℕ) (r : Option ℕ)
+    → MatchOption r ((k : ℕ) → 0 ≤ k → k < length s → sequence_length (drop k s) ≡ 0) (λ i. (0 ≤ i) × (i < length s) × (0 < sequence_length (drop i s)) × ((k : ℕ) → 0 ≤ k → k < i → sequence_length (drop k s) ≡ 0))
+    → Stretch s (unwrap_or r (length s))
+stretch_found s None none = record { value = all_stay s (length s) (omega arith) (λ k h. none k (omega arith) h); within = omega arith; before_sequence = λ h. absurd (omega arith) }
+stretch_found s (Some i) f = record { value = all_stay s i (omega (arith, f.1)) (λ k h. f.3 k (omega arith) h); within = omega (arith, f.1); before_sequence = λ h. f.2 }
 
--- the text is read
-pub reached_end : (s : List ℕ) (n i : ℕ) → Reached s n i → length s ≤ i → n ≡ length (visible s)
-reached_end s n i w h =
-    let d : length (drop n (visible s)) ≡ 0 = ap length (w.rest ∙ ap (passing 0) (drop_of_length-le s h) ∙ passing_nil) in
-    omega (arith, d, length-drop n (visible s), w.within)
+-- a step of the walk: the bytes that stay, and what is visible behind the sequence after them
+pub walked : (s x r : List ℕ) (n : ℕ) → Stays s n → x ≡ part n (length s) s → r ≡ drop (sequence_length x) x → visible s ≡ take n s ++ visible r
+walked s x r n v e q =
+    v ∙ ap (λ (l : List ℕ). take n s ++ l) (ap visible (sym (rest_part s n) ∙ sym e) ∙ past x ∙ ap visible (sym q))
 
--- each stretch with its sequence brings the end nearer
-pub nearer : (l i e k : ℕ) → i < l → i ≤ e → e + k ≤ l → (e < l → 0 < k) → l - (e + k) < l - i
-nearer l i e k h g w f = by (ltb e l) refl
+-- each step brings the end nearer: where the bytes that stay do not reach it, a sequence is passed over
+pub nearer : (s x r : List ℕ) (n : ℕ) → length s ≢ 0 → n ≤ length s → (n < length s → 0 < sequence_length (drop n s)) → x ≡ part n (length s) s → r ≡ drop (sequence_length x) x
+    → length r < length s
+nearer s x r n h w f e q =
+    let d : x ≡ drop n s = e ∙ rest_part s n in
+    let lx : length x ≡ length s - n = ap length d ∙ length-drop n s in
+    let lr : length r ≡ length x - sequence_length x = ap length q ∙ length-drop (sequence_length x) x in
+    let z : sequence_length x ≡ sequence_length (drop n s) = ap sequence_length d in
+    by (ltb n (length s)) refl lx lr z
   where
-    by : (x : Bool) → ltb e l ≡ x → l - (e + k) < l - i
-    by true t = omega (arith, f (ltb-true e l t))
-    by false t = omega (arith, ltb-false e l t)
+    by : (b : Bool) → ltb n (length s) ≡ b → length x ≡ length s - n → length r ≡ length x - sequence_length x → sequence_length x ≡ sequence_length (drop n s) → length r < length s
+    by true t l lr z = let o = f (ltb-true n (length s) t) in omega arith
+    by false t l lr z = let o = ltb-false n (length s) t in omega arith

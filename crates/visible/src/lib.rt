@@ -1,15 +1,14 @@
 // What is visible of a text: its colour taken out. For who has a coloured line and wants the plain one.
 #![tactic(auto)]
 
-ghost use Rattle.std.specs.Prelude.{◌≡◌, ◌++◌, ◌+◌, ◌<◌, ◌≤◌, ◌^◌, length, drop};
-ghost use Rattle.buffer.specs.Bytes.{part};
-ghost use Rattle.buffer.specs.Buffer.{Puts, Writes};
+ghost use Rattle.std.specs.Prelude.{◌≡◌, ◌++◌, ◌+◌, ◌<◌, ◌≤◌, ◌^◌, length, take, drop, MatchOption};
+ghost use Rattle.buffer.specs.Buffer.{Writes};
 ghost use Rattle.packing.specs.Packing.{Packable};
 ghost use Rattle.answer.specs.Answers.{answer_of, buffer_after};
 ghost use Rattle.visible.specs.Visible.{visible_entry};
-ghost use Rattle.colour.specs.Sequences.{longer, tail_length, bracket_length, sequence_length, passing, visible};
+ghost use Rattle.colour.specs.Sequences.{sequence_length, visible};
 
-use buffer::put;
+use measure::sink::{Count, Place, Sink};
 use packing::{Answer, answer_in};
 use refusals::Refusal;
 use scanning::in_sequence;
@@ -24,126 +23,74 @@ pub fn visible_text(s: &[u8], out: &mut [u8]) -> Answer
     ensures packable { Packable result }
 {
     if TOO_LONG <= s.len() {
-        return Answer::Refused(Refusal::NotASheet);
+        return Err(Refusal::NotASheet);
     }
     let room = out.len();
     let n = put_visible(s, out);
     answer_in(room, n)
 }
 
-// Writes what is visible of s to the front of the buffer where it fits, and returns its length. It is measured first, since what
-// does not fit must leave the buffer as it was; but where all of s would fit, there is nothing to measure.
+// Writes what is visible of s to the front of the buffer where it fits, and returns its length. Where not all of s would fit, it is measured
+// first, since what does not fit must leave the buffer as it was.
 fn put_visible(s: &[u8], out: &mut [u8]) -> usize
+    requires { length s.now < 2 ^ 56 }
     ensures { Writes out.old out.new (visible s.now) result }
 {
-    if s.len() <= out.len() {
-        return put_stretches(s, out);
+    if out.len() < s.len() {
+        let n = write_visible(s, Count(0), &mut []).0;
+        if out.len() < n {
+            return n;
+        }
     }
-    let n = visible_len(s);
-    if out.len() < n {
-        return n;
-    }
-    put_stretches(s, out)
+    write_visible(s, Place(0), out).0
 }
 
-fn visible_len(s: &[u8]) -> usize
-    ensures { result ≡ length (visible s.now) }
+// Tells what is visible of s, stretch by stretch: the bytes up to a colour sequence stay, and the sequence is passed over.
+fn write_visible<S: Sink>(s: &[u8], mut sink: S, out: &mut [u8]) -> S
+    requires { S.fits sink out.old (visible s.now) }
+    ensures value { result ≡ S.after sink (visible s.now) }
+    ensures buffer { out.new ≡ S.left sink out.old (visible s.now) }
 {
-    let mut n = 0;
-    let mut i = 0;
-    while i < s.len() {
-        let e = stretch_end(s, i);
-        n += e - i;
-        i = e + sequence_len(s, e);
+    let mut rest = s;
+    // no `for` over places (d): each stretch says where the next one begins
+    while !rest.is_empty() {
+        let n = stretch_len(rest);
+        sink = sink.take(&rest[..n], out);
+        rest = past_sequence(&rest[n..]);
     }
-    n
+    sink
 }
 
-fn put_stretches(s: &[u8], out: &mut [u8]) -> usize
-    requires { length (visible s.now) ≤ length out.old }
-    ensures { Puts out.old out.new 0 (visible s.now) result }
-{
-    let mut n = 0;
-    let mut i = 0;
-    while i < s.len() {
-        let e = stretch_end(s, i);
-        n = put(out, n, &s[i..e]);
-        i = e + sequence_len(s, e);
-    }
-    n
-}
-
-// Where the bytes from i on that stay end: where the next colour sequence begins, or at the end of the text.
-fn stretch_end(s: &[u8], i: usize) -> usize
-    requires { i ≤ length s.now }
-    ensures s_value { passing 0 (drop i s.now) ≡ part i result s.now ++ passing 0 (drop result s.now) }
-    ensures within { (i ≤ result) × (result ≤ length s.now) }
+// How many bytes of the text stay before a colour sequence begins or the text ends.
+fn stretch_len(s: &[u8]) -> usize
+    ensures s_value { visible s.now ≡ take result s.now ++ visible (drop result s.now) }
+    ensures within { result ≤ length s.now }
     ensures before_sequence { result < length s.now → 0 < sequence_length (drop result s.now) }
 {
-    let mut e = i;
-    while e < s.len() {
-        if 0 < sequence_len(s, e) {
-            return e;
-        }
-        e += 1;
-    }
-    e
+    (0..s.len())
+        .find(
+            |&n|
+                requires { n ≤ length s.now }
+            { sequence_len(&s[n..]).is_some() },
+        )
+        .unwrap_or(s.len())
 }
 
-// How many bytes the colour sequence has that begins at i; 0 where none does.
-fn sequence_len(s: &[u8], i: usize) -> usize
-    requires { i ≤ length s.now }
-    ensures { (result ≡ sequence_length (drop i s.now)) × (i + result ≤ length s.now) }
+// The text without the colour sequence that begins it, if one does.
+fn past_sequence(s: &[u8]) -> &[u8]
+    ensures { result.now ≡ drop (sequence_length s.now) s.now }
 {
-    if i == s.len() {
-        return 0;
+    match sequence_len(s) {
+        Some(n) => &s[n..],
+        None => s,
     }
-    if s[i] != 27 {
-        return 0;
-    }
-    one_longer(bracket_len(s, i + 1))
 }
 
-// The same behind byte 27.
-fn bracket_len(s: &[u8], i: usize) -> usize
-    requires { i ≤ length s.now }
-    ensures { (result ≡ bracket_length (drop i s.now)) × (i + result ≤ length s.now) }
+// How many bytes the colour sequence has that begins the text, if one does.
+fn sequence_len(s: &[u8]) -> Option<usize>
+    ensures { MatchOption result (sequence_length s.now ≡ 0) (λ n. (sequence_length s.now ≡ n) × ((0 < n) × (n ≤ length s.now))) }
 {
-    if i == s.len() {
-        return 0;
-    }
-    if s[i] != b'[' {
-        return 0;
-    }
-    one_longer(tail_len(s, i + 1))
-}
-
-// The same behind that and `[`.
-fn tail_len(s: &[u8], i: usize) -> usize
-    requires { i ≤ length s.now }
-    ensures { (result ≡ tail_length (drop i s.now)) × (i + result ≤ length s.now) }
-{
-    let mut e = i;
-    while e < s.len() {
-        let b = s[e];
-        if b == b'm' {
-            return e + 1 - i;
-        }
-        if !in_sequence(b) {
-            return 0;
-        }
-        e += 1;
-    }
-    0
-}
-
-// A byte more, where something was found.
-fn one_longer(n: usize) -> usize
-    requires { n + 1 < 2 ^ 64 }
-    ensures { result ≡ longer n }
-{
-    if n == 0 {
-        return 0;
-    }
-    n + 1
+    let rest = s.strip_prefix(b"\x1b[")?;
+    let n = rest.iter().position(|b| !in_sequence(*b))?;
+    if rest[n] == b'm' { Some(n + 3) } else { None }
 }

@@ -1,5 +1,5 @@
 -- The table of wide characters: its order, and two stretches of it. Assumes nothing.
-use Prim.Native.Nat.{ℕ, ◌<◌, ◌≤◌, zero-le}
+use Prim.Native.Nat.{ℕ, ◌<◌, ◌≤◌}
 use mathlib.Core.Path.{◌≡◌, refl, sym}
 use mathlib.Core.Bool.{true, false}
 use native.Mathlib.Omega.{arith}
@@ -7,17 +7,13 @@ use lib.ListN.{length, get_or}
 use Rattle.points.specs.Ranges.{ends}
 use Rattle.points.specs.Searching.{Rising}
 use Rattle.points.proofs.Order.{rises}
-use Rattle.points.proofs.Halving.{up_to_next, start, down, met}
+use Rattle.points.proofs.Halving.{up_to_next, up_to_none}
 use Rattle.points.proofs.Lookup.{among_odd}
 use Rattle.widths.specs.Wide.{wide}
 use Rattle.widths.specs.Widths.{is_wide, wide_in_order}
 
 pub rising : Rising (ends wide)
 rising = rises 0 (ends wide) wide_in_order
-
-some : 0 < length (ends wide)
-unfolding ends wide
-some = omega arith
 
 first : get_or (ends wide) 0 0 ≡ 0x1100
 unfolding ends wide
@@ -26,9 +22,7 @@ first = refl
 -- nothing before the first range is wide
 pub narrow : (x : ℕ) → x < 0x1100 → is_wide x ≡ false
 unfolding is_wide
-narrow x h =
-    sym (among_odd wide x 0
-    (met (ends wide) x 0 0 (down (ends wide) x 0 (length (ends wide)) 0 rising (start (ends wide) x) zero-le some (omega (arith, first, h))) zero-le))
+narrow x h = sym (among_odd wide x 0 (up_to_none (ends wide) x rising (omega (arith, first, h))))
 
 -- the long range: ideographs, and what stands between them
 many : 97 < length (ends wide)

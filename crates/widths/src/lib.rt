@@ -13,8 +13,9 @@ pub enum Rule {
     Places,
 }
 
-// Of a character that has begun: how many of its bytes are still to come, and the bits that those before have said.
-#[derive(Clone, Copy)]
+// Of a character that has begun: how many of its bytes are still to come, and the bits that those before have said. It has no invariant (d): measures hold the
+// two numbers apart, and what is asked of them is one word, `Fits`.
+#[derive(Clone, Copy, Default)]
 pub struct Pending {
     pub awaited: u8,
     pub bits: u16,

@@ -1,13 +1,13 @@
-// The table of wide characters. A constant is built on the stack where it is named, so that it is named once for a text, and lent from there.
+// The table of wide characters: a `static`, since a `const` would be built on the stack wherever it is named.
 ghost use Rattle.std.specs.Prelude.{◌≡◌, ◌+◌, ◌<◌, ◌^◌, length};
 ghost use Rattle.widths.specs.Widths.{ran};
 ghost use Rattle.widths.specs.Fitting.{Fits};
 
 use super::Wides;
-use super::counting::run_over;
+use super::counting::advance;
 
 // Where each range of wide characters begins, and the code point after it, by turns. `oracle/wide` makes it.
-pub const ENDS: [u32; 246] = [
+pub(crate) static ENDS: [u32; 246] = [
     0x1100, 0x1160, 0x231A, 0x231C, 0x2329, 0x232B, 0x23E9, 0x23ED, 0x23F0, 0x23F1, 0x23F3, 0x23F4,
     0x25FD, 0x25FF, 0x2614, 0x2616, 0x2630, 0x2638, 0x2648, 0x2654, 0x267F, 0x2680, 0x268A, 0x2690,
     0x2693, 0x2694, 0x26A1, 0x26A2, 0x26AA, 0x26AC, 0x26BD, 0x26BF, 0x26C4, 0x26C6, 0x26CE, 0x26CF,
@@ -38,6 +38,9 @@ pub fn run_text(w: Wides, s: &[u8]) -> Wides
     requires { Fits w.pending × (w.wide + length s.now < 2 ^ 60) }
     ensures { result ≡ ran w s.now }
 {
-    let ends = ENDS;
-    run_over(&ends, w, s)
+    let mut v = w;
+    for &b in s {
+        v = advance(v, b);
+    }
+    v
 }

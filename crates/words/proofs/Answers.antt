@@ -1,76 +1,74 @@
--- What an answer of the code tells, and the bounds that come with it, one law for each case. Assumes nothing.
-use Prim.Native.Nat.{ℕ, ◌+◌, ◌≤◌}
-use mathlib.Core.Path.{◌≡◌, sym, ap, ◌∙◌}
-use native.Mathlib.Nat.{le_trans}
-use native.Mathlib.Omega.{arith}
+-- What an answer of the code tells, and the bounds that come with it: of any reader, one law for each case. Assumes nothing.
+use Prim.Native.Nat.{ℕ}
+use mathlib.Core.Path.{◌≡◌, refl, sym, ap, ◌∙◌}
+use Rattle.std.specs.Prelude.{Option, Some, None, Result, Ok, Err, MatchOption, IsSomeAnd}
+use Rattle.std.specs.Option.{option_map}
 use Rattle.refusals.specs.declared.Refusal.{Refusal}
-use Rattle.words.specs.declared.LogMetadata.{LogMetadata}
-use Rattle.words.specs.declared.Parameter.{Parameter}
-use Rattle.words.specs.declared.MetadataRead.{MetadataRead}
-use Rattle.words.specs.declared.FormatRead.{FormatRead}
 use Rattle.words.specs.Trying.{Tried, fit, misfit, refused, ◌or_else◌}
-use Rattle.words.specs.Within.{tell_metadata, tell_format, Named, Wide, MetadataWithin, FormatWithin}
+use Rattle.words.specs.Within.{told, told_read, Fitting}
 use Rattle.words.proofs.Attempts.{or_else_fit, or_else_misfit, or_else_refused}
 
--- ---- specifiers: the code's answer is o, and it tells x
+-- ---- the code's answer is o, and it tells x
 
-module _ (o : MetadataRead) (x : Tried LogMetadata) (w : tell_metadata o ≡ x) where
-  pub metadata_fit : (m : LogMetadata) (j : ℕ) → o ≡ MetadataRead.Fit j m → x ≡ fit m j
-  unfolding tell_metadata
-  metadata_fit m j q = sym w ∙ ap tell_metadata q
+module _ {A B : Type 0} (f : A → B) (o : Result (Option (ℕ × A)) Refusal) (x : Tried B) (w : told f o ≡ x) where
+  pub told_fit : (p : ℕ × A) → o ≡ Ok (Some p) → x ≡ fit (f p.1) p.0
+  unfolding told
+  told_fit p q = sym w ∙ ap (told f) q
 
-  pub metadata_misfit : o ≡ MetadataRead.Misfit → x ≡ misfit
-  unfolding tell_metadata
-  metadata_misfit q = sym w ∙ ap tell_metadata q
+  pub told_misfit : o ≡ Ok None → x ≡ misfit
+  unfolding told
+  told_misfit q = sym w ∙ ap (told f) q
 
-  pub metadata_refused : (r : Refusal) → o ≡ MetadataRead.Refused r → x ≡ refused r
-  unfolding tell_metadata
-  metadata_refused r q = sym w ∙ ap tell_metadata q
+  pub told_refused : (r : Refusal) → o ≡ Err r → x ≡ refused r
+  unfolding told
+  told_refused r q = sym w ∙ ap (told f) q
 
-pub metadata_bounds : (from to : ℕ) (o : MetadataRead) (m : LogMetadata) (j : ℕ) → o ≡ MetadataRead.Fit j m
-    → MetadataWithin from to o → (from + 1 ≤ j) × (j ≤ to) × Named m
-unfolding MetadataWithin
-metadata_bounds from to o m j q w = rw q at w
+-- ---- what is tried first fits or is refused, or something else is tried
 
-pub metadata_wider : (from to to' : ℕ) (o : MetadataRead) → MetadataWithin from to o → to ≤ to' → MetadataWithin from to' o
-unfolding MetadataWithin
-metadata_wider from to to' (MetadataRead.Fit j m) w h = (w.0, le_trans w.1 h, w.2)
-metadata_wider from to to' MetadataRead.Misfit w h = tt
-metadata_wider from to to' (MetadataRead.Refused r) w h = tt
+module _ {A B : Type 0} (f : A → B) (o : Result (Option (ℕ × A)) Refusal) (x : Tried B) (other : Unit {0} → Tried B) (w : told f o ≡ x) where
+  pub told_first : (p : ℕ × A) → o ≡ Ok (Some p) → fit (f p.1) p.0 ≡ (x or_else other)
+  told_first p q = sym (or_else_fit x other (f p.1) p.0 (told_fit f o x w p q))
 
--- ---- parameters
+  pub told_stopped : (r : Refusal) → o ≡ Err r → refused r ≡ (x or_else other)
+  told_stopped r q = sym (or_else_refused x other r (told_refused f o x w r q))
 
-module _ (o : FormatRead) (x : Tried Parameter) (w : tell_format o ≡ x) where
-  pub format_fit : (p : Parameter) (j : ℕ) → o ≡ FormatRead.Fit j p → x ≡ fit p j
-  unfolding tell_format
-  format_fit p j q = sym w ∙ ap tell_format q
+  pub told_other : o ≡ Ok None → other tt ≡ (x or_else other)
+  told_other q = sym (or_else_misfit x other (told_misfit f o x w q))
 
-  pub format_misfit : o ≡ FormatRead.Misfit → x ≡ misfit
-  unfolding tell_format
-  format_misfit q = sym w ∙ ap tell_format q
+-- ---- the bounds of what fits
 
-  pub format_refused : (r : Refusal) → o ≡ FormatRead.Refused r → x ≡ refused r
-  unfolding tell_format
-  format_refused r q = sym w ∙ ap tell_format q
+module _ {A : Type 0} (so : ℕ → A → Type 0) (o : Result (Option (ℕ × A)) Refusal) (w : Fitting so o) where
+  pub fitting : (p : ℕ × A) → o ≡ Ok (Some p) → so p.0 p.1
+  unfolding Fitting
+  fitting p q = rw q at w
 
--- what is tried first fits or is refused, or something else is tried
-module _ (o : FormatRead) (x : Tried Parameter) (other : Unit {0} → Tried Parameter) (w : tell_format o ≡ x) where
-  pub format_first : (p : Parameter) (j : ℕ) → o ≡ FormatRead.Fit j p → tell_format o ≡ (x or_else other)
-  format_first p j q = let f = format_fit o x w p j q in w ∙ f ∙ sym (or_else_fit x other p j f)
+pub fitting_on : {A : Type 0} (so also : ℕ → A → Type 0) (o : Result (Option (ℕ × A)) Refusal) → ((j : ℕ) (a : A) → so j a → also j a) → Fitting so o → Fitting also o
+unfolding Fitting
+fitting_on so also (Ok (Some p)) g w = g p.0 p.1 w
+fitting_on so also (Ok None) g w = tt
+fitting_on so also (Err r) g w = tt
 
-  pub format_stopped : (r : Refusal) → o ≡ FormatRead.Refused r → tell_format o ≡ (x or_else other)
-  format_stopped r q = let f = format_refused o x w r q in w ∙ f ∙ sym (or_else_refused x other r f)
+-- ---- what is found, and the place after it, which the code puts beside it
 
-  pub format_other : o ≡ FormatRead.Misfit → other tt ≡ (x or_else other)
-  format_other q = sym (or_else_misfit x other (format_misfit o x w q))
+-- r is what `map` makes of o by a closure that answers so
+pub placed : {A : Type 0} (j : ℕ) (o : Option A) (r : Option (ℕ × A)) (so : A → ℕ × A → Type 0) → ((a : A) (p : ℕ × A) → so a p → p ≡ (j, a))
+    → MatchOption o (r ≡ None) (λ a. IsSomeAnd r (so a)) → r ≡ option_map (λ a. (j, a)) o
+placed j None r so g h = h
+placed j (Some a) (Some p) so g h = ap Some (g a p h)
+placed j (Some a) None so g h = elim h [ ]
 
-pub format_bounds : (from to : ℕ) (o : FormatRead) (p : Parameter) (j : ℕ) → o ≡ FormatRead.Fit j p
-    → FormatWithin from to o → (from + 1 ≤ j) × (j ≤ to) × Wide p
-unfolding FormatWithin
-format_bounds from to o p j q w = rw q at w
+-- ---- an answer is settled by what it tells
 
-pub format_wider : (from to from' to' : ℕ) (o : FormatRead) → FormatWithin from to o → from' ≤ from → to ≤ to' → FormatWithin from' to' o
-unfolding FormatWithin
-format_wider from to from' to' (FormatRead.Fit j p) w g h = (omega arith, le_trans w.1 h, w.2)
-format_wider from to from' to' FormatRead.Misfit w g h = tt
-format_wider from to from' to' (FormatRead.Refused r) w g h = tt
+told_back : {A : Type 0} → Tried A → Result (Option (ℕ × A)) Refusal
+told_back (fit a j) = Ok (Some (j, a))
+told_back misfit = Ok None
+told_back (refused r) = Err r
+
+told_again : {A : Type 0} (o : Result (Option (ℕ × A)) Refusal) → told_back (told_read o) ≡ o
+unfolding told told_back
+told_again (Ok (Some p)) = refl
+told_again (Ok None) = refl
+told_again (Err r) = refl
+
+pub told_settled : {A : Type 0} (x y : Result (Option (ℕ × A)) Refusal) → told_read x ≡ told_read y → x ≡ y
+told_settled x y e = sym (told_again x) ∙ ap told_back e ∙ told_again y

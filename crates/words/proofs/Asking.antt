@@ -1,5 +1,5 @@
 -- Laws of parameters: words of several tables, widths. Assumes nothing.
-use Prim.Native.Nat.{ℕ, ◌+◌, ◌-◌, ◌≤◌, ◌<◌, min}
+use Prim.Native.Nat.{ℕ, ◌+◌, ◌≤◌, ◌<◌, min}
 use mathlib.Core.Path.{◌≡◌, refl, sym, ap, ◌∙◌}
 use mathlib.Core.List.{List, [], ◌∷◌}
 use native.Mathlib.Omega.{arith}
@@ -13,10 +13,10 @@ use Rattle.words.specs.declared.Alignment.{Alignment}
 use Rattle.words.specs.declared.Alignment.TheVariants.{Left}
 use Rattle.words.specs.declared.Padding.{Padding}
 use Rattle.words.specs.declared.Parameter.{Parameter}
-use Rattle.words.specs.declared.FormatRead.{FormatRead}
 use Rattle.runs.specs.Runs.{decimal, digit, lowered, letters_end, digits_end}
-use Rattle.words.specs.Trying.{fit, misfit, refused, ◌or_else◌}
-use Rattle.words.specs.Within.{tell_format, Wide, FormatWithin}
+use Rattle.words.specs.Trying.{fit, misfit, refused}
+use Rattle.std.specs.Prelude.{Some}
+use Rattle.words.specs.Within.{found}
 use Rattle.words.specs.Words.{sense, either, sensed, level_colours, colours, styles, parameter_of, name, alignments, padding_of, width_of, digits_to, aligned, byte_at, width_at}
 use Rattle.runs.proofs.Counting.{capped_fits, capped_over}
 use Rattle.runs.proofs.Matching.{part_none}
@@ -29,44 +29,29 @@ use Rattle.runs.proofs.Running.{run_end_lem}
 pub same_sense : (j : ℕ) (x y : Maybe Parameter) → x ≡ y → sensed j (sense x) ≡ sensed j (sense y)
 same_sense j x y q = ap (λ (z : Maybe Parameter). sensed j (sense z)) q
 
--- the word at hand is in the table, or isn't: what the code answers then
-pub word_read : (from to : ℕ) (x : Maybe Parameter) (p : Parameter) → x ≡ some p → Wide p → from < to
-    → (tell_format (FormatRead.Fit to p) ≡ sensed to (sense x)) × FormatWithin from to (FormatRead.Fit to p)
-unfolding tell_format FormatWithin sensed sense
-word_read from to x p q v h = (sym (same_sense to x (some p) q), (omega arith, omega arith, v))
-
-pub word_unread : (from to : ℕ) (x : Maybe Parameter) → x ≡ none
-    → (tell_format FormatRead.Misfit ≡ sensed to (sense x)) × FormatWithin from to FormatRead.Misfit
-unfolding tell_format FormatWithin sensed sense
-word_unread from to x q = (sym (same_sense to x none q), tt)
-
 module _ (x y : Maybe Parameter) where
-  pub either_first : (p : Parameter) → x ≡ some p → either x y ≡ some p
-  unfolding either
-  either_first p q = ap (λ (z : Maybe Parameter). either z y) q
-
   pub either_other : x ≡ none → either x y ≡ y
   unfolding either
   either_other q = ap (λ (z : Maybe Parameter). either z y) q
 
--- a word of one table or of another is one attempt or another: the crate's `alt`
-pub sensed_either : {A : Type 0} (j : ℕ) (x y : Maybe A) → sensed j (sense (either x y)) ≡ (sensed j (sense x) or_else λ _. sensed j (sense y))
-unfolding either sense sensed ◌or_else◌
-sensed_either j none y = refl
-sensed_either j (some a) y = refl
+-- what is found in the first is what is found
+pub either_found : {A : Type 0} (f : A → Parameter) (a : A) (x y : Maybe Parameter) → found f (Some a) ≡ x → found f (Some a) ≡ either x y
+unfolding either found
+either_found f a x y q = sym (ap (λ (z : Maybe Parameter). either z y) (sym q))
 
 pub either_grouped : {A : Type 0} (x y z : Maybe A) → either x (either y z) ≡ either (either x y) z
 unfolding either
 either_grouped none y z = refl
 either_grouped (some a) y z = refl
 
--- the colours, then the styles
-pub parameter_tried : (j : ℕ) (w : List ℕ) → sensed j (parameter_of w)
-    ≡ (sensed j (sense (either (lookup level_colours w) (lookup colours (lowered w)))) or_else λ _. sensed j (sense (lookup styles w)))
+-- the colours, then the styles: what the run of letters that ends at j names
+pub parameter_named : (t : List ℕ) (i e j : ℕ) → j ≡ letters_end t i e → (m : Maybe Parameter)
+    → m ≡ either (either (lookup level_colours (part i j t)) (lookup colours (lowered (part i j t)))) (lookup styles (part i j t))
+    → sensed j (sense m) ≡ name parameter_of t i e
 unfolding parameter_of
-parameter_tried j w =
-    same_sense j _ _ (either_grouped (lookup level_colours w) (lookup colours (lowered w)) (lookup styles w))
-    ∙ sensed_either j (either (lookup level_colours w) (lookup colours (lowered w))) (lookup styles w)
+parameter_named t i e j q m r =
+    let w = part i j t in
+    same_sense j _ _ (r ∙ sym (either_grouped (lookup level_colours w) (lookup colours (lowered w)) (lookup styles w))) ∙ sym (name_sensed parameter_of t i e j q)
 
 pub no_parameter : (t : List ℕ) (i e j : ℕ) → j ≡ letters_end t i e → j ≤ i → name parameter_of t i e ≡ misfit
 unfolding parameter_of sense either lookup lowered same sensed

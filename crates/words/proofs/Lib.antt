@@ -2,4 +2,5 @@
 pub mod Answers
 pub mod Asking
 pub mod Attempts
+pub mod Listing
 pub mod Naming

@@ -7,15 +7,16 @@ use native.Mathlib.Omega.{arith}
 use lib.ListN.{length, get_or, replicate}
 use borrow.Author.Tests.{ne_eqb, le-leb, lt-leb}
 use Rattle.buffer.specs.Bytes.{part, same}
-use Rattle.buffer.specs.Table.{Maybe, none, lookup}
+use Rattle.buffer.specs.Table.{none, lookup}
 use Rattle.refusals.specs.declared.Refusal.{Refusal}
 use Rattle.words.specs.declared.LogMetadata.{LogMetadata}
 use Rattle.words.specs.declared.LogMetadata.TheVariants.{FileName}
-use Rattle.words.specs.declared.MetadataRead.{MetadataRead}
 use Rattle.runs.specs.Runs.{letters_end}
 use Rattle.words.specs.Trying.{fit, misfit, refused}
-use Rattle.words.specs.Within.{tell_metadata, Named, MetadataWithin}
-use Rattle.words.specs.Words.{Sense, stands_for, nothing, not_allowed, sensed, name_to, name, specifiers, specifier_of, or_repeated_f, repeated_f, count_of_f}
+use Rattle.std.specs.Prelude.{Option, Some, None, Ok, MatchOption, ⊤}
+use Rattle.std.specs.Option.{option_map}
+use Rattle.words.specs.Within.{told, told_read, found, found_sense, Fitting, Named, MetadataWithin}
+use Rattle.words.specs.Words.{Sense, sense, stands_for, nothing, not_allowed, sensed, name_to, name, specifiers, specifier_of, or_repeated_f, repeated_f, count_of_f}
 use Rattle.runs.proofs.Matching.{part_none, same_lengths}
 use Rattle.buffer.proofs.Tables.{lookup_on, lookup_none}
 use Rattle.buffer.proofs.Parts.{part_step}
@@ -93,35 +94,22 @@ no_name j t i e h = ap (λ (w : List ℕ). sensed j (specifier_of w)) (part_none
 -- ---- specifiers of one letter
 
 pub letter_alone : (t : List ℕ) (i j : ℕ) → j - i ≡ 1 → j ≤ length t
-    → sensed j (specifier_of (part i j t)) ≡ sensed (i + 1) (specifier_of (get_or t i 0 ∷ []))
+    → sensed j (specifier_of (part i j t)) ≡ sensed j (specifier_of (get_or t i 0 ∷ []))
 letter_alone t i j h g =
     ap (λ (w : List ℕ). sensed j (specifier_of w))
     (part_step t i j (omega arith) g ∙ ap (λ (w : List ℕ). get_or t i 0 ∷ w) (part_none t (i + 1) j (omega arith)))
-    ∙ ap (λ (k : ℕ). sensed k (specifier_of (get_or t i 0 ∷ []))) (let q : j ≡ i + 1 = omega arith in q)
 
--- the letter b is k, which stands for m
-pub letter_fit : (i b k : ℕ) (m : LogMetadata) → b ≡ k → specifier_of (k ∷ []) ≡ stands_for m → Named m
-    → (tell_metadata (MetadataRead.Fit (i + 1) m) ≡ sensed (i + 1) (specifier_of (b ∷ []))) × MetadataWithin i (i + 1) (MetadataRead.Fit (i + 1) m)
-unfolding tell_metadata MetadataWithin
-letter_fit i b k m q s n =
-    (sym (ap (λ (x : ℕ). sensed (i + 1) (specifier_of (x ∷ []))) q ∙ sensed_fit (i + 1) _ m s), (omega arith, omega arith, n))
+-- the letter is the whole word, which ends at j
+pub letter_told : (j : ℕ) (o : Option LogMetadata) (s : Sense LogMetadata) → found_sense o ≡ s → told_read (Ok (option_map (λ m. (j, m)) o)) ≡ sensed j s
+unfolding told found sense sensed
+letter_told j None s q = ap (sensed j) q
+letter_told j (Some m) s q = ap (sensed j) q
+
+pub letter_within : (from to j : ℕ) (o : Option LogMetadata) → MatchOption o ⊤ Named → from + 1 ≤ j → j ≤ to → MetadataWithin from to (Ok (option_map (λ m. (j, m)) o))
+unfolding Fitting
+letter_within from to j None n g h = tt
+letter_within from to j (Some m) n g h = (g, h, n)
 
 pub one_other : (a b : ℕ) → (b ≡ a → ⊥) → same (a ∷ []) (b ∷ []) ≡ false
 unfolding same
 one_other a b h = rw (ne_eqb a b (λ q. h (sym q)), same)
-
-pub letter_misfit : (j b : ℕ) → (b ≡ 0x63 → ⊥) → (b ≡ 0x66 → ⊥) → (b ≡ 0x46 → ⊥) → (b ≡ 0x6C → ⊥) → (b ≡ 0x73 → ⊥) → (b ≡ 0x4C → ⊥) → (b ≡ 0x6D → ⊥) → (b ≡ 0x74 → ⊥) → (b ≡ 0x64 → ⊥)
-    → sensed j (specifier_of (b ∷ [])) ≡ misfit
-unfolding specifier_of or_repeated_f repeated_f sensed
-letter_misfit j b c f F l s L m t d =
-    ap (λ (x : Maybe LogMetadata). sensed j (or_repeated_f (b ∷ []) x))
-    (lookup_on _ _ _ (one_other 0x63 b c)
-    ∙ lookup_on _ _ _ (one_other 0x46 b F)
-    ∙ lookup_on _ _ _ (one_other 0x6C b l)
-    ∙ lookup_on _ _ _ (one_other 0x73 b s)
-    ∙ lookup_on _ _ _ (one_other 0x4C b L)
-    ∙ lookup_on _ _ _ (one_other 0x6D b m)
-    ∙ lookup_on _ _ _ (one_other 0x74 b t)
-    ∙ lookup_on _ _ _ (one_other 0x64 b d)
-    ∙ lookup_none _)
-    ∙ rw (one_other 0x66 b f, repeated_f)

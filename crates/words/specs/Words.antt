@@ -1,6 +1,6 @@
 -- Names and numbers of a template (document 01, "Reading a template"): specifiers and parameters. Assumes nothing.
-use Rattle.std.specs.Prelude.{ℕ, zero, suc, ◌+◌, ◌-◌, ◌≡◌, refl, Bool, true, false, List, [], ◌∷◌, eqb, leb, ltb, length, get_or, replicate}
-use Rattle.buffer.specs.Bytes.{byte, bytes, part, same}
+use Rattle.std.specs.Prelude.{ℕ, zero, suc, ◌+◌, true, false, List, [], ◌∷◌, eqb, leb, ltb, length, get_or, replicate}
+use Rattle.buffer.specs.Bytes.{byte, part, same}
 use Rattle.buffer.specs.Table.{Maybe, none, some, Entry, ◌means◌, lookup}
 use Rattle.refusals.specs.declared.Refusal.{Refusal}
 use Rattle.words.specs.declared.LogMetadata.{LogMetadata}
@@ -8,7 +8,6 @@ use Rattle.words.specs.declared.LogMetadata.TheVariants.{CrateName, FileName, Fi
 use Rattle.words.specs.declared.Color.{Color}
 use Rattle.words.specs.declared.Color.TheVariants.{Black, Red, Green, Yellow, Blue, Magenta, Cyan, White}
 use Rattle.words.specs.declared.LogColor.{LogColor}
-use Rattle.words.specs.declared.Style.{Style}
 use Rattle.words.specs.declared.Style.TheVariants.{Bold, Italic, Underline, Strike, Dimmed}
 use Rattle.words.specs.declared.Alignment.{Alignment}
 use Rattle.words.specs.declared.Alignment.TheVariants.{Left, Center, Right}

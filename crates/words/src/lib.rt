@@ -6,7 +6,7 @@ use refusals::Refusal;
 pub mod parser;
 
 // What a specifier shows.
-#[derive(Clone, Copy)]
+#[derive(Clone, Copy, PartialEq, Eq)]
 pub enum LogMetadata {
     CrateName,
     FileName(u8),
@@ -34,10 +34,9 @@ pub enum Color {
     BrightWhite,
 }
 
-// The colour that a segment asks for.
+// A colour that a segment asks for.
 #[derive(Clone, Copy)]
 pub enum LogColor {
-    Unasked,
     Color(Color),
     SeverityLevel,
     WarnError,
@@ -52,27 +51,22 @@ pub enum Style {
     Dimmed,
 }
 
-#[derive(Clone, Copy)]
+#[derive(Clone, Copy, Default)]
 pub enum Alignment {
+    #[default]
     Left,
     Center,
     Right,
 }
 
-#[derive(Clone, Copy)]
+#[derive(Clone, Copy, Default)]
 pub enum Padding {
+    #[default]
     Space,
     Zero,
 }
 
-// The width that a segment asks for: 512 at most. What is copied from reader to reader holds its numbers narrow.
-#[derive(Clone, Copy)]
-pub enum Width {
-    Default,
-    Given(u16),
-}
-
-#[derive(Clone, Copy)]
+#[derive(Clone, Copy, Default)]
 pub struct Styles {
     pub bold: bool,
     pub dimmed: bool,
@@ -81,14 +75,14 @@ pub struct Styles {
     pub strike: bool,
 }
 
-// How a specifier or a group asks to be written.
-#[derive(Clone, Copy)]
+// How a specifier or a group asks to be written; a width is 512 at most. What is copied from reader to reader holds its numbers narrow.
+#[derive(Clone, Copy, Default)]
 pub struct LogFormat {
     pub styles: Styles,
     pub alignment: Alignment,
     pub padding: Padding,
-    pub color: LogColor,
-    pub width: Width,
+    pub color: Option<LogColor>,
+    pub width: Option<u16>,
 }
 
 // One parameter of a specifier or a group.
@@ -99,19 +93,5 @@ pub enum Parameter {
     WidthAndAlignment(u16, Padding, Alignment),
 }
 
-// What is found where a specifier is tried: the place after it and what it is, or a misfit, or a refusal. The place stands first, so that no gap
-// is left before it: an answer is copied with its gaps.
-#[derive(Clone, Copy)]
-pub enum MetadataRead {
-    Fit(usize, LogMetadata),
-    Misfit,
-    Refused(Refusal),
-}
-
-// What is found where a parameter is tried.
-#[derive(Clone, Copy)]
-pub enum FormatRead {
-    Fit(usize, Parameter),
-    Misfit,
-    Refused(Refusal),
-}
+// What comes of trying to read something: the place after it and what it is, nothing where it doesn't fit, or a refusal.
+pub type Read<T> = Result<Option<(usize, T)>, Refusal>;

@@ -1,167 +1,119 @@
 // The crate's parsers of specifiers and parameters (parser.rs), in its order.
-ghost use Rattle.std.specs.Prelude.{◌≡◌, [], ◌∷◌, ◌+◌, ◌-◌, ◌≤◌, ◌<◌, length, get_or};
-ghost use Rattle.buffer.specs.Bytes.{part};
-ghost use Rattle.buffer.specs.Table.{some, lookup};
-ghost use Rattle.runs.specs.Runs.{lowered, digits_end};
-ghost use Rattle.spelling.specs.Tables.{value_at};
-ghost use Rattle.words.specs.Within.{tell_metadata, tell_format, MetadataWithin, FormatWithin};
-ghost use Rattle.words.specs.Words.{specifier_of, parameter_of, sense, either, level_colours, colour, colours, styles, sensed, name, specifier_at, padding_of, digits_to, width_at, parameter_at};
+#![tactic(auto, using(crate::proofs::Answers::fitting_on), unfolding(crate::specs::Within::told, crate::specs::Within::Fitting))]
 
-use super::{
-    Alignment, Color, FormatRead, LogColor, LogMetadata, MetadataRead, Padding, Parameter, Style,
-};
+ghost use Rattle.std.specs.Prelude.{◌≡◌, Ok, Some, MatchOption, ⊤, [], ◌∷◌, ◌+◌, ◌-◌, ◌≤◌, ◌<◌, length};
+ghost use Rattle.buffer.specs.Bytes.{part};
+ghost use Rattle.buffer.specs.Table.{lookup};
+ghost use Rattle.runs.specs.Runs.{lowered, digits_end};
+ghost use Rattle.words.specs.Within.{told_read, found, found_sense, Named, MetadataWithin, FormatWithin};
+ghost use Rattle.words.specs.Words.{specifier_of, parameter_of, either, level_colours, colour, colours, styles, sensed, name, specifier_at, padding_of, digits_to, width_at, parameter_at};
+
+use super::{Alignment, Color, LogColor, LogMetadata, Padding, Parameter, Read, Style};
 use refusals::Refusal;
 use runs::numbers::width;
 use runs::{digits_end, letters_end};
 use spelling::{is_repeated_f, word_index};
 
-// The specifier at `from`: the whole run of letters there.
-pub fn parse_metadata(t: &[u8], from: usize, to: usize) -> MetadataRead
+// The specifier at `from`: the whole run of letters there. Each parser is given the whole template and a range, not a part of it (d), since the places
+// that it answers are the template's.
+pub fn parse_metadata(t: &[u8], from: usize, to: usize) -> Read<LogMetadata>
     requires { (from ≤ to) × (to ≤ length t.now) }
-    ensures result_value { tell_metadata result ≡ specifier_at t.now from to }
+    ensures result_value { told_read result ≡ specifier_at t.now from to }
     ensures within { MetadataWithin from to result }
 {
     let j = letters_end(t, from, to);
     if j - from == 1 {
-        return letter_metadata(t, from);
+        return Ok(letter_metadata(t[from]).map(|m| (j, m)));
     }
     file_name(t, from, j)
 }
 
 // A specifier of one letter.
-fn letter_metadata(t: &[u8], from: usize) -> MetadataRead
-    requires { from < length t.now }
-    ensures result_value { tell_metadata result ≡ sensed (from + 1) (specifier_of (get_or t.now from 0 ∷ [])) }
-    ensures within { MetadataWithin from (from + 1) result }
+#[tactic(auto, unfolding(crate::specs::Computing::computes, crate::specs::Within::found, buffer::specs::Table::lookup, buffer::specs::Bytes::same))]
+fn letter_metadata(b: u8) -> Option<LogMetadata>
+    ensures value { found_sense result ≡ specifier_of (b ∷ []) }
+    ensures named { MatchOption result ⊤ Named }
 {
-    match t[from] {
-        b'c' => MetadataRead::Fit(from + 1, LogMetadata::CrateName),
-        b'f' => MetadataRead::Fit(from + 1, LogMetadata::FileName(1)),
-        b'F' => MetadataRead::Fit(from + 1, LogMetadata::FilePath),
-        b'l' => MetadataRead::Fit(from + 1, LogMetadata::LineNumber),
-        b's' => MetadataRead::Fit(from + 1, LogMetadata::Log),
-        b'L' => MetadataRead::Fit(from + 1, LogMetadata::LogLevel),
-        b'm' => MetadataRead::Fit(from + 1, LogMetadata::ModulePath),
-        b't' => MetadataRead::Fit(from + 1, LogMetadata::Timestamp),
-        b'd' => MetadataRead::Fit(from + 1, LogMetadata::HeadSerial),
-        _ => MetadataRead::Misfit,
+    match b {
+        b'c' => Some(LogMetadata::CrateName),
+        b'f' => Some(LogMetadata::FileName(1)),
+        b'F' => Some(LogMetadata::FilePath),
+        b'l' => Some(LogMetadata::LineNumber),
+        b's' => Some(LogMetadata::Log),
+        b'L' => Some(LogMetadata::LogLevel),
+        b'm' => Some(LogMetadata::ModulePath),
+        b't' => Some(LogMetadata::Timestamp),
+        b'd' => Some(LogMetadata::HeadSerial),
+        _ => None,
     }
 }
 
 // A specifier of any other number of letters can only be `f` repeated. The crate keeps their number in a u8.
-fn file_name(t: &[u8], from: usize, to: usize) -> MetadataRead
+fn file_name(t: &[u8], from: usize, to: usize) -> Read<LogMetadata>
     requires { (from ≤ to) × (to ≤ length t.now) × (to - from ≡ 1 → ⊥) }
-    ensures result_value { tell_metadata result ≡ sensed to (specifier_of (part from to t.now)) }
+    ensures result_value { told_read result ≡ sensed to (specifier_of (part from to t.now)) }
     ensures within { MetadataWithin from to result }
 {
-    if to <= from {
-        return MetadataRead::Misfit;
+    if to <= from || !is_repeated_f(t, from, to) {
+        return Ok(None);
     }
-    if !is_repeated_f(t, from, to) {
-        return MetadataRead::Misfit;
-    }
-    let n = to - from;
-    if n <= 255 {
-        MetadataRead::Fit(to, LogMetadata::FileName(n as u8))
-    } else {
-        MetadataRead::Refused(Refusal::TooManyF)
-    }
+    let Ok(n) = u8::try_from(to - from) else {
+        return Err(Refusal::TooManyF);
+    };
+    Ok(Some((to, LogMetadata::FileName(n))))
 }
 
 // The colour that the letters t[from..to] ask for.
-fn parse_color(t: &[u8], from: usize, to: usize) -> FormatRead
-    requires { (from < to) × (to ≤ length t.now) }
-    ensures result_value { tell_format result ≡ sensed to (sense (either (lookup level_colours (part from to t.now)) (lookup colours (lowered (part from to t.now))))) }
-    ensures within { FormatWithin from to result }
+fn parse_color(t: &[u8], from: usize, to: usize) -> Option<LogColor>
+    requires { (from ≤ to) × (to ≤ length t.now) }
+    ensures { found Parameter.Color result ≡ either (lookup level_colours (part from to t.now)) (lookup colours (lowered (part from to t.now))) }
 {
-    let i = word_index(&[8, 6], b"severitywerror", t, from, to, false);
-    if 2 <= i {
-        return color_from_str(t, from, to);
-    }
-    FormatRead::Fit(to, Parameter::Color(level_color_at(i)))
-}
-
-// The colour of a level's word by its index. The words' indices and what they stand for are taken apart: a `match` that makes whole answers is proved slowly.
-fn level_color_at(i: usize) -> LogColor
-    requires { i < 2 }
-    ensures { value_at level_colours i ≡ some (Parameter.Color result) }
-{
-    match i {
-        0 => LogColor::SeverityLevel,
-        _ => LogColor::WarnError,
+    match word_index(&[8, 6], b"severitywerror", t, from, to, false) {
+        Some(i) => Some([LogColor::SeverityLevel, LogColor::WarnError][i]),
+        None => Some(LogColor::Color(color_from_str(t, from, to)?)),
     }
 }
 
 // The crate's `colored::Color::from_str`, less the colours that its names cannot say: a name is letters only.
-fn color_from_str(t: &[u8], from: usize, to: usize) -> FormatRead
-    requires { (from < to) × (to ≤ length t.now) }
-    ensures result_value { tell_format result ≡ sensed to (sense (lookup colours (lowered (part from to t.now)))) }
-    ensures within { FormatWithin from to result }
+fn color_from_str(t: &[u8], from: usize, to: usize) -> Option<Color>
+    requires { (from ≤ to) × (to ≤ length t.now) }
+    ensures { found colour result ≡ lookup colours (lowered (part from to t.now)) }
 {
-    let i = word_index(
-        &[5, 3, 5, 6, 4, 7, 6, 4, 5],
-        b"blackredgreenyellowbluemagentapurplecyanwhite",
-        t,
-        from,
-        to,
-        true,
-    );
-    if 9 <= i {
-        return FormatRead::Misfit;
-    }
-    FormatRead::Fit(to, Parameter::Color(LogColor::Color(color_at(i))))
-}
-
-fn color_at(i: usize) -> Color
-    requires { i < 9 }
-    ensures { value_at colours i ≡ some (colour result) }
-{
-    match i {
-        0 => Color::Black,
-        1 => Color::Red,
-        2 => Color::Green,
-        3 => Color::Yellow,
-        4 => Color::Blue,
-        5 => Color::Magenta,
-        6 => Color::Magenta,
-        7 => Color::Cyan,
-        _ => Color::White,
-    }
+    const COLORS: [Color; 9] = [
+        Color::Black,
+        Color::Red,
+        Color::Green,
+        Color::Yellow,
+        Color::Blue,
+        Color::Magenta,
+        Color::Magenta,
+        Color::Cyan,
+        Color::White,
+    ];
+    let lengths = [5, 3, 5, 6, 4, 7, 6, 4, 5];
+    let letters = b"blackredgreenyellowbluemagentapurplecyanwhite";
+    let i = word_index(&lengths, letters, t, from, to, true)?;
+    Some(COLORS[i])
 }
 
 // The style that the letters t[from..to] ask for.
-fn parse_style(t: &[u8], from: usize, to: usize) -> FormatRead
-    requires { (from < to) × (to ≤ length t.now) }
-    ensures result_value { tell_format result ≡ sensed to (sense (lookup styles (part from to t.now))) }
-    ensures within { FormatWithin from to result }
+fn parse_style(t: &[u8], from: usize, to: usize) -> Option<Style>
+    requires { (from ≤ to) × (to ≤ length t.now) }
+    ensures { found Parameter.Style result ≡ lookup styles (part from to t.now) }
 {
-    let i = word_index(
-        &[4, 6, 9, 6, 6],
-        b"bolditalicunderlinestrikedimmed",
-        t,
-        from,
-        to,
-        false,
-    );
-    if 5 <= i {
-        return FormatRead::Misfit;
-    }
-    FormatRead::Fit(to, Parameter::Style(style_at(i)))
+    const STYLES: [Style; 5] = [
+        Style::Bold,
+        Style::Italic,
+        Style::Underline,
+        Style::Strike,
+        Style::Dimmed,
+    ];
+    let letters = b"bolditalicunderlinestrikedimmed";
+    let i = word_index(&[4, 6, 9, 6, 6], letters, t, from, to, false)?;
+    Some(STYLES[i])
 }
 
-fn style_at(i: usize) -> Style
-    requires { i < 5 }
-    ensures { value_at styles i ≡ some (Parameter.Style result) }
-{
-    match i {
-        0 => Style::Bold,
-        1 => Style::Italic,
-        2 => Style::Underline,
-        3 => Style::Strike,
-        _ => Style::Dimmed,
-    }
-}
-
+#[tactic(auto, unfolding(crate::specs::Words::padding_of))]
 fn padding(b: u8) -> Padding
     ensures { result ≡ padding_of (b ∷ []) }
 {
@@ -172,32 +124,35 @@ fn padding(b: u8) -> Padding
     }
 }
 
+// The widest width that may be asked for.
+const WIDEST: usize = 512;
+
 // The width that the digits at `from` say.
-fn parse_digits(t: &[u8], from: usize, to: usize, alignment: Alignment) -> FormatRead
+fn parse_digits(t: &[u8], from: usize, to: usize, alignment: Alignment) -> Read<Parameter>
     requires { (from ≤ to) × (to ≤ length t.now) }
-    ensures result_value { tell_format result ≡ digits_to alignment t.now from (digits_end t.now from to) }
+    ensures result_value { told_read result ≡ digits_to alignment t.now from (digits_end t.now from to) }
     ensures within { FormatWithin from to result }
 {
     let j = digits_end(t, from, to);
     if j <= from {
-        return FormatRead::Misfit;
+        return Ok(None);
     }
     let n = width(t, from, j);
-    if 512 < n {
-        return FormatRead::Refused(Refusal::TooWide);
+    if WIDEST < n {
+        return Err(Refusal::TooWide);
     }
     let z = padding(t[from]);
-    FormatRead::Fit(j, Parameter::WidthAndAlignment(n as u16, z, alignment))
+    Ok(Some((j, Parameter::WidthAndAlignment(n as u16, z, alignment))))
 }
 
 // Left alignment is the default.
-fn parse_width_and_alignment(t: &[u8], from: usize, to: usize) -> FormatRead
+fn parse_width_and_alignment(t: &[u8], from: usize, to: usize) -> Read<Parameter>
     requires { (from ≤ to) × (to ≤ length t.now) }
-    ensures result_value { tell_format result ≡ width_at t.now from to }
+    ensures result_value { told_read result ≡ width_at t.now from to }
     ensures within { FormatWithin from to result }
 {
     if to <= from {
-        return FormatRead::Misfit;
+        return Ok(None);
     }
     match t[from] {
         b'^' => parse_digits(t, from + 1, to, Alignment::Center),
@@ -208,33 +163,29 @@ fn parse_width_and_alignment(t: &[u8], from: usize, to: usize) -> FormatRead
 }
 
 // The parameter that the whole run of letters at `from` names.
-fn parse_name(t: &[u8], from: usize, to: usize) -> FormatRead
+fn parse_name(t: &[u8], from: usize, to: usize) -> Option<(usize, Parameter)>
     requires { (from ≤ to) × (to ≤ length t.now) }
-    ensures result_value { tell_format result ≡ name parameter_of t.now from to }
-    ensures within { FormatWithin from to result }
+    ensures result_value { told_read (Ok result) ≡ name parameter_of t.now from to }
+    ensures within { FormatWithin from to (Ok result) }
 {
     let j = letters_end(t, from, to);
     if j <= from {
-        return FormatRead::Misfit;
+        return None;
     }
-    let c = parse_color(t, from, j);
-    match c {
-        FormatRead::Fit(_, _) => c,
-        FormatRead::Misfit => parse_style(t, from, j),
-        FormatRead::Refused(_) => c,
+    match parse_color(t, from, j) {
+        Some(color) => Some((j, Parameter::Color(color))),
+        None => Some((j, Parameter::Style(parse_style(t, from, j)?))),
     }
 }
 
 // The parameter at `from`: a colour, a style or a width.
-pub fn parse_format(t: &[u8], from: usize, to: usize) -> FormatRead
+pub fn parse_format(t: &[u8], from: usize, to: usize) -> Read<Parameter>
     requires { (from ≤ to) × (to ≤ length t.now) }
-    ensures result_value { tell_format result ≡ parameter_at t.now from to }
+    ensures result_value { told_read result ≡ parameter_at t.now from to }
     ensures within { FormatWithin from to result }
 {
-    let p = parse_name(t, from, to);
-    match p {
-        FormatRead::Fit(_, _) => p,
-        FormatRead::Misfit => parse_width_and_alignment(t, from, to),
-        FormatRead::Refused(_) => p,
+    match parse_name(t, from, to) {
+        Some(named) => Ok(Some(named)),
+        None => parse_width_and_alignment(t, from, to),
     }
 }

@@ -1,14 +1,13 @@
 -- `caret::ends_control` meets its contract. Assumes nothing.
-use mathlib.Core.Path.{sym}
-use native.Mathlib.Omega.{arith}
-use Rattle.caret.proofs.Shown.{control_of_another, control_ascii, control_beyond}
+use Rattle.std.proofs.Common.{tests, arith}
+use Rattle.utf8.specs.Utf8.{within}
+use Rattle.caret.specs.Caret.{ends_control}
 use Rattle.caret.proofs.ends_control.Goals as goal
 
-pub returns-then-before-ne194 : goal.returns-then-before-ne194
-returns-then-before-ne194 c = sym (control_of_another _ _ c.if-before-ne194.true)
+pub returns-then-before-eq194 : goal.returns-then-before-eq194
+unfolding ends_control within
+returns-then-before-eq194 c = grind (arith, tests, c.contains.ensures.value)
 
-pub returns-then-b-lt128 : goal.returns-then-b-lt128
-returns-then-b-lt128 c = sym (control_ascii _ _ (omega arith) (omega arith))
-
-pub returns : goal.returns
-returns c = sym (control_beyond _ _ (omega arith) (omega arith))
+pub returns-else-before-eq194 : goal.returns-else-before-eq194
+unfolding ends_control within
+returns-else-before-eq194 c = grind (arith, tests)

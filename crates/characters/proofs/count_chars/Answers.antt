@@ -1,22 +1,32 @@
 -- `characters::count_chars` meets its contract. The loop's invariant: a byte passed begins a character or was counted, and b was met or is
 -- still to come. Assumes nothing.
-use borrow.Author.Rules.{rules}
-use mathlib.Core.Path.{◌∙◌}
-use Prim.Native.Nat.{◌≤◌, ◌+◌, ◌-◌}
 use native.Mathlib.Omega.{arith}
-use lib.ListN.{length}
-use Rattle.characters.proofs.Counting.{chars_end, met_all}
+use mathlib.Core.Path.{◌≡◌, ap, sym, ◌∙◌}
+use mathlib.Core.List.{List, ◌++◌}
+use Prim.Native.Nat.{ℕ, ◌+◌}
+use lib.ListN.{drop, take-append-drop}
+use Rattle.characters.specs.Characters.{chars}
+use Rattle.characters.proofs.Counting.{chars_append, met_round}
 use Rattle.characters.proofs.count_chars.Goals as goal
 
-pub loop-i-preserved : goal.loop-i-preserved
-loop-i-preserved c = (search rules, ((search rules, search rules), c.tally-t.ensures.s_value_2 ∙ c.loop-i.invariant.1.1))
+pub loop-round-preserved : goal.loop-round-preserved
+loop-round-preserved c =
+    let l = c.loop-round.invariant in
+    let t = c.in-Some.ensures.cases in
+    let x = c.in-Some.round.now in
+    let r = c.loop-round.rest.now in
+    let e = sym (take-append-drop 128 r) ∙ ap (λ (y : List ℕ). y ++ drop 128 r) (sym t.1) ∙ ap (λ (y : List ℕ). x ++ y) (sym t.2) in
+    let k : chars r ≡ chars x + chars c.in-Some.others.now = ap chars e ∙ chars_append x c.in-Some.others.now in
+    record {
+      few = omega arith;
+      counted = omega arith;
+      met = met_round c.args.b _ x _ c.loop-round.met _ e c.tally-t.ensures.met_value ∙ l.met;
+    }
 
 pub returns : goal.returns
 returns c =
-    let s = c.args.s.now in
-    let h : length s ≤ c.loop-i.i + (length s - c.loop-i.i) = omega arith in
-    let e = chars_end s (c.loop-i.i + (length s - c.loop-i.i)) h in
+    let l = c.loop-round.invariant in
     record {
       chars_value = omega arith;
-      met_value = met_all c.args.b s (c.loop-i.i + (length s - c.loop-i.i)) c.tally-t-2.result.met h (c.tally-t-2.ensures.s_value_2 ∙ c.loop-i.invariant.1.1);
+      met_value = c.tally-last.ensures.met_value ∙ l.met;
     }

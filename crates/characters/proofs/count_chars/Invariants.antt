@@ -2,15 +2,17 @@
 -- still to come. Assumes nothing.
 use mathlib.Core.Path.{◌≡◌}
 use mathlib.Core.Bool.{true, cond}
-use Prim.Native.Nat.{◌≤◌, ◌+◌, ◌-◌}
-use lib.ListN.{length, drop}
+use Prim.Native.Nat.{◌≤◌, ◌+◌}
+use lib.ListN.{length}
 use Rattle.characters.specs.Characters.{chars, has}
 use Rattle.characters.proofs.count_chars.Given as goal
 
-abbrev pub invariant-loop-i : goal.invariant-loop-i
-invariant-loop-i l = (l.i ≤ length l.s)
-    × (((l.trailing ≤ l.i) × (l.trailing + chars l.s ≡ l.i + chars (drop l.i l.s)))
-    × (cond l.met true (has l.b (drop l.i l.s)) ≡ has l.b l.s))
+abbrev pub invariant-loop-round : goal.invariant-loop-round
+invariant-loop-round l = record {
+  few : l.trailing + length l.rest ≤ length l.s;
+  counted : l.trailing + chars l.s + length l.rest ≡ length l.s + chars l.rest;
+  met : cond l.met true (has l.b l.rest) ≡ has l.b l.s;
+}
 
-abbrev pub decreases-loop-i : goal.decreases-loop-i
-decreases-loop-i l = length l.s - l.i
+abbrev pub decreases-loop-round : goal.decreases-loop-round
+decreases-loop-round l = length l.rest

@@ -2,15 +2,14 @@
 -- Assumes nothing.
 use mathlib.Core.Path.{◌≡◌}
 use mathlib.Core.Bool.{true, cond}
-use Prim.Native.Nat.{◌≤◌, ◌+◌, ◌-◌}
+use Prim.Native.Nat.{◌≤◌, ◌+◌}
 use lib.ListN.{drop}
 use Rattle.characters.specs.Characters.{chars, has}
 use Rattle.characters.proofs.tally.Given as goal
 
-abbrev pub invariant-loop-k : goal.invariant-loop-k
-invariant-loop-k l = (l.k ≤ l.n)
-    × (((l.trailing ≤ l.k) × (l.trailing + chars (drop l.from l.s) ≡ l.k + chars (drop (l.from + l.k) l.s)))
-    × (cond l.met true (has l.b (drop (l.from + l.k) l.s)) ≡ cond l.before true (has l.b (drop l.from l.s))))
-
-abbrev pub decreases-loop-k : goal.decreases-loop-k
-decreases-loop-k l = l.n - l.k
+abbrev pub invariant-loop-x : goal.invariant-loop-x
+invariant-loop-x l = record {
+  few : l.trailing ≤ l.x-index;
+  counted : l.trailing + chars l.round ≡ l.x-index + chars (drop l.x-index l.round);
+  met : cond l.met true (has l.b (drop l.x-index l.round)) ≡ cond l.before true (has l.b l.round);
+}

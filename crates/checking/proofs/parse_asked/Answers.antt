@@ -13,6 +13,6 @@ returns-then-is_known c =
 pub returns : goal.returns
 returns c =
     record {
-      cells_after = asked_unknown _ _ (sym c.is_known.ensures ∙ c.if-is_known.false) _;
+      cells_after = asked_unknown _ _ (sym c.is_known.ensures ∙ c.if-is_known.false) c.args.cells.now;
       keeps = tt;
     }

@@ -1,34 +1,35 @@
 -- `comparisons::character_end` meets its contract. Assumes nothing.
-use borrow.Author.Rules.{rules}
 use native.Mathlib.Omega.{arith}
-use Prim.Native.Nat.{ℕ, ◌+◌, ◌<◌}
-use mathlib.Core.Path.{◌≡◌, sym, subst, ◌∙◌}
-use mathlib.Core.List.{List, [], ◌∷◌}
-use mathlib.Core.Bool.{true}
-use lib.ListN.{length, get_or}
-use Rattle.buffer.proofs.Parts.{part_snoc}
-use Rattle.buffer.specs.Bytes.{part}
-use Rattle.comparisons.proofs.Splitting.{Trails, trails_append, goes_at, goes_end, first_at}
-use Rattle.comparisons.proofs.Parts.{part_none}
-use Rattle.utf8.specs.Utf8.{within, trail}
+use Prim.Native.Nat.{ℕ, ◌+◌, ◌-◌, ◌<◌}
+use mathlib.Core.Path.{subst, ◌∙◌}
+use lib.ListN.{get_or}
+use Rattle.buffer.proofs.Parts.{part_length}
+use Rattle.comparisons.specs.Places.{Starts}
+use Rattle.comparisons.proofs.Splitting.{goes_at, goes_end, first_at}
+use Rattle.comparisons.proofs.Finding.{at_part, in_whole, trails_part, starts_by}
 use Rattle.comparisons.proofs.character_end.Goals as goal
 
-trails_start : (d : List ℕ) (i : ℕ) → Trails (part (i + 1) (i + 1) d)
-trails_start d i = subst Trails (sym (part_none d (i + 1) (i + 1) (omega arith))) tt
+pub returns-in-Some : goal.returns-in-Some
+returns-in-Some c =
+    let d = c.args.d.now in
+    let i = c.args.i + 1 in
+    let e = c.args.e in
+    let n = c.in-Some.n in
+    let f = rw c.in-Some.is at c.first_start.ensures in
+    let l = part_length d i e (omega arith) c.requires.1 in
+    let h : i + n < e = omega (arith, f.0, c.requires.0) in
+    let none = in_whole (λ (b : ℕ). Starts b → ⊥) d i e 0 n (omega arith) (λ k a b. f.2 k b) in
+    let t = trails_part d (i + n) (omega (arith, c.requires.1)) n i (omega arith) (λ k a b. none k (omega arith) b) in
+    let s = starts_by (get_or d (i + n) 0) (subst Starts (at_part d i e n (omega arith)) f.1) in
+    ((omega arith, omega arith), first_at d c.args.i (i + n) e (omega arith) (omega arith) c.requires.1 t (goes_at d (i + n) e h c.requires.1 ∙ s))
 
-trails_more : (d : List ℕ) (i k : ℕ) → i < k → k < length d → Trails (part (i + 1) k d) → within trail (get_or d k 0) ≡ true → Trails (part (i + 1) (k + 1) d)
-trails_more d i k h g s n = subst Trails (sym (part_snoc d (i + 1) k (omega arith) g)) (trails_append (part (i + 1) k d) (get_or d k 0 ∷ []) s (n, tt))
-
-pub loop-k-init : goal.loop-k-init
-loop-k-init c = ((search rules, search rules), trails_start c.args.d.now c.args.i)
-
-pub returns-then-not-goes_on : goal.returns-then-not-goes_on
-returns-then-not-goes_on c =
-    let t = c.loop-k-test.true in
-    ((search rules, search rules), first_at _ c.args.i c.loop-k.k c.args.e c.loop-k.invariant.0.0 c.loop-k.invariant.0.1 c.requires.1 c.loop-k.invariant.1 (goes_at _ c.loop-k.k c.args.e t c.requires.1 ∙ sym c.goes_on.ensures ∙ c.if-not-goes_on.true))
-
-pub loop-k-preserved : goal.loop-k-preserved
-loop-k-preserved c = ((search rules, search rules), trails_more _ c.args.i c.loop-k.k c.loop-k.invariant.0.0 (search rules) c.loop-k.invariant.1 (sym c.goes_on.ensures ∙ c.if-not-goes_on.false))
-
-pub returns : goal.returns
-returns c = ((search rules, search rules), first_at _ c.args.i c.loop-k.k c.args.e c.loop-k.invariant.0.0 c.loop-k.invariant.0.1 c.requires.1 c.loop-k.invariant.1 (goes_end _ c.loop-k.k c.args.e c.loop-k-test.false))
+pub returns-in-None : goal.returns-in-None
+returns-in-None c =
+    let d = c.args.d.now in
+    let i = c.args.i + 1 in
+    let e = c.args.e in
+    let f = rw c.in-None.is at c.first_start.ensures in
+    let l = part_length d i e (omega arith) c.requires.1 in
+    let none = in_whole (λ (b : ℕ). Starts b → ⊥) d i e 0 (e - i) (omega arith) (λ k a b. f k (omega arith)) in
+    let t = trails_part d e c.requires.1 (e - i) i (omega arith) (λ k a b. none k (omega arith) (omega arith)) in
+    ((c.requires.0, omega arith), first_at d c.args.i e e c.requires.0 (omega arith) c.requires.1 t (goes_end d e e (omega arith)))

@@ -5,7 +5,8 @@ use mathlib.Core.Path.{◌≡◌, sym, ap, ◌∙◌}
 use mathlib.Core.Bool.{false}
 use mathlib.Core.List.{List, []}
 use Rattle.buffer.specs.Bytes.{part}
-use Rattle.buffer.proofs.Parts.{part_end}
+use borrow.Author.Tests.{le-ltb}
+use Rattle.comparisons.proofs.Parts.{part_none}
 use Rattle.comparisons.specs.Comparisons.{ends_with}
 use Rattle.comparisons.specs.Places.{unended}
 use Rattle.comparisons.proofs.Marking.{ends_at}
@@ -15,12 +16,13 @@ ends_nothing : (b : ℕ) (x : List ℕ) → x ≡ [] → false ≡ ends_with b x
 unfolding ends_with
 ends_nothing b x e = sym (ap (ends_with b) e)
 
-pub returns-then-e-from : goal.returns-then-e-from
-returns-then-e-from c =
+pub returns-then-from-e : goal.returns-then-from-e
+returns-then-from-e c =
     let d = c.args.d.now in
-    ends_nothing 0x60 (unended (part c.args.from c.args.to d)) (sym c.text_end-e.ensures.1 ∙ ap (λ (j : ℕ). part c.args.from j d) c.if-e-from.true ∙ part_end d c.args.from)
+    sym (ap (ends_with 0x60) (sym c.text_end-e.ensures.1) ∙ ends_at d c.args.from c.text_end-e.result 0x60 c.if-from-e.true (omega (arith, c.text_end-e.ensures.0.1)))
 
-pub returns : goal.returns
-returns c =
+pub returns-else-from-e : goal.returns-else-from-e
+returns-else-from-e c =
     let d = c.args.d.now in
-    sym (ap (ends_with 0x60) (sym c.text_end-e.ensures.1) ∙ ends_at d c.args.from c.text_end-e.result 0x60 (omega (arith, c.text_end-e.ensures.0.0, c.if-e-from.false)) (omega (arith, c.text_end-e.ensures.0.1)))
+    le-ltb c.args.from c.text_end-e.result c.if-from-e.false
+    ∙ ends_nothing 0x60 (unended (part c.args.from c.args.to d)) (sym c.text_end-e.ensures.1 ∙ part_none d c.args.from c.text_end-e.result c.if-from-e.false)

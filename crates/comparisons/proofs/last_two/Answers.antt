@@ -22,14 +22,14 @@ pub loop-next-smaller : goal.loop-next-smaller
 loop-next-smaller c = omega (arith, c.line_at-z.ensures.onward, c.loop-next-test.true)
 
 pub loop-next-preserved : goal.loop-next-preserved
-loop-next-preserved c = walked_turn _ c.args.from c.args.to c.loop-next.left c.loop-next.stop c.loop-next.right c.loop-next.last c.loop-next.next c.line_at-z.result c.loop-next.invariant c.loop-next-test.true c.line_at-z.ensures
+loop-next-preserved c = walked_turn _ c.args.from c.args.to c.loop-next.left.from c.loop-next.left.to c.loop-next.right.from c.loop-next.right.to c.loop-next.next c.line_at-z.result c.loop-next.invariant c.loop-next-test.true c.line_at-z.ensures
 
 pub returns-then-left-from : goal.returns-then-left-from
-returns-then-left-from c = (few_two _ c.args.from c.args.to c.loop-next.left c.loop-next.stop c.loop-next.right c.loop-next.last c.loop-next.next c.loop-next.invariant c.loop-next-test.false c.if-left-from.true, tt)
+returns-then-left-from c = (few_two _ c.args.from c.args.to c.loop-next.left.from c.loop-next.left.to c.loop-next.right.from c.loop-next.right.to c.loop-next.next c.loop-next.invariant c.loop-next-test.false c.if-left-from.true, tt)
 
 pub returns : goal.returns
 returns c =
     let w = c.loop-next.invariant in (
-      last_two_are _ c.args.from c.args.to c.loop-next.left c.loop-next.stop c.loop-next.right c.loop-next.last c.loop-next.next w c.loop-next-test.false c.requires.1 c.if-left-from.false,
+      last_two_are _ c.args.from c.args.to c.loop-next.left.from c.loop-next.left.to c.loop-next.right.from c.loop-next.right.to c.loop-next.next w c.loop-next-test.false c.requires.1 c.if-left-from.false,
       (c.loop-next.invariant.inside.0, (c.loop-next.invariant.inside.1.0, (c.loop-next.invariant.inside.1.1, omega (arith, c.loop-next.invariant.ahead.0, c.loop-next.invariant.ahead.1)))),
     )

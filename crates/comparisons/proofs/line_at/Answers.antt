@@ -1,32 +1,30 @@
 -- `comparisons::line_at` meets its contract. Assumes nothing.
-use borrow.Author.Rules.{rules}
 use native.Mathlib.Omega.{arith}
-use Prim.Native.Nat.{ℕ, ◌+◌, ◌≤◌, ◌<◌}
-use mathlib.Core.Path.{◌≡◌, sym, subst}
-use mathlib.Core.List.{List, [], ◌∷◌}
-use lib.ListN.{length, get_or}
-use Rattle.buffer.proofs.Parts.{part_snoc}
-use Rattle.buffer.specs.Bytes.{part}
-use Rattle.comparisons.proofs.Lining.{Single, single_append, line_open, line_ended}
-use Rattle.comparisons.proofs.Parts.{part_none}
+use Prim.Native.Nat.{ℕ, ◌+◌, ◌-◌, ◌<◌}
+use mathlib.Core.Path.{◌≡◌, sym, ◌∙◌}
+use Rattle.buffer.proofs.Parts.{part_length}
+use Rattle.comparisons.proofs.Lining.{line_open, line_ended}
+use Rattle.comparisons.proofs.Finding.{at_part, in_whole, single_part}
 use Rattle.comparisons.proofs.line_at.Goals as goal
 
-single_start : (d : List ℕ) (i : ℕ) → Single (part i i d)
-single_start d i = subst Single (sym (part_none d i i (omega arith))) tt
+pub returns-in-Some : goal.returns-in-Some
+returns-in-Some c =
+    let d = c.args.d.now in
+    let i = c.args.i in
+    let e = c.args.e in
+    let n = c.in-Some.n in
+    let f = rw c.in-Some.is at c.newline_in.ensures in
+    let l = part_length d i e (omega arith) c.requires.1 in
+    let h : i + n < e = omega (arith, f.0, c.requires.0) in
+    let none = in_whole (λ (b : ℕ). b ≡ 0x0A → ⊥) d i e 0 n (omega arith) (λ k a b. f.2 k b) in
+    line_ended d i (i + n) e _ (omega arith) h c.requires.1 (single_part d (i + n) (omega (arith, c.requires.1)) n i (omega arith) (λ k a b. none k (omega arith) b)) (sym (at_part d i e n (omega arith)) ∙ f.1) c.ended_line.ensures.0 c.ended_line.ensures.1.0 c.ended_line.ensures.1.1
 
-single_more : (d : List ℕ) (i k : ℕ) → i ≤ k → k < length d → Single (part i k d) → (get_or d k 0 ≡ 0x0A → ⊥) → Single (part i (k + 1) d)
-single_more d i k h g s n = subst Single (sym (part_snoc d i k h g)) (single_append (part i k d) (get_or d k 0 ∷ []) s (n, tt))
-
-pub loop-k-init : goal.loop-k-init
-loop-k-init c = ((search rules, search rules), single_start c.args.d.now c.args.i)
-
-pub returns-then-d-k-eq10 : goal.returns-then-d-k-eq10
-returns-then-d-k-eq10 c = line_ended _ c.args.i c.loop-k.k c.args.e _ c.loop-k.invariant.0.0 c.loop-k-test.true c.requires.1 c.loop-k.invariant.1 c.if-d-k-eq10.true c.ended_line.ensures.0 c.ended_line.ensures.1.0 c.ended_line.ensures.1.1
-
-pub loop-k-preserved : goal.loop-k-preserved
-loop-k-preserved c = ((search rules, search rules), single_more _ c.args.i c.loop-k.k c.loop-k.invariant.0.0 (search rules) c.loop-k.invariant.1 c.if-d-k-eq10.false)
-
-pub returns : goal.returns
-returns c =
-    let z : c.loop-k.k ≡ c.args.e = omega (arith, c.loop-k.invariant.0.1, c.loop-k-test.false) in
-    line_open _ c.args.i c.args.e c.requires.0 c.requires.1 (subst (λ (j : ℕ). Single (part c.args.i j c.args.d.now)) z c.loop-k.invariant.1)
+pub returns-in-None : goal.returns-in-None
+returns-in-None c =
+    let d = c.args.d.now in
+    let i = c.args.i in
+    let e = c.args.e in
+    let f = rw c.in-None.is at c.newline_in.ensures in
+    let l = part_length d i e (omega arith) c.requires.1 in
+    let none = in_whole (λ (b : ℕ). b ≡ 0x0A → ⊥) d i e 0 (e - i) (omega arith) (λ k a b. f k (omega arith)) in
+    line_open d i e c.requires.0 c.requires.1 (single_part d e c.requires.1 (e - i) i (omega arith) (λ k a b. none k (omega arith) (omega arith)))

@@ -1,7 +1,5 @@
 -- `dress::dress` meets its contract. Assumes nothing.
 use mathlib.Core.Path.{ap, ◌∙◌}
-use Prim.Native.Nat.{ℕ, ◌-◌}
-use native.Mathlib.Nat.{sub-zero}
 use native.Mathlib.Omega.{arith}
 use lib.ListN.{length, take, length-take}
 use Rattle.buffer.specs.Bytes.{part}
@@ -16,11 +14,11 @@ slice_bounds-lay-end c = omega (arith, c.put_prefix-n.ensures.0, ap length c.put
 
 pub lay-requires : goal.lay-requires
 lay-requires c =
-    let e = ap (λ (n : ℕ). take n c.put_prefix-n.new.into) (sub-zero c.put_prefix-n.result) ∙ c.put_prefix-n.ensures.1.0 in
+    let e = c.put_prefix-n.ensures.1.0 in
     record {
       i_le_e = (
         c.requires.i_le_e.0,
-        same_end (prefix c.args.f.look) (take (c.put_prefix-n.result - 0) c.put_prefix-n.new.into) (part c.args.i c.args.e c.args.out.now)
+        same_end (prefix c.args.f.look) (take c.put_prefix-n.result c.put_prefix-n.new.into) (part c.args.i c.args.e c.args.out.now)
             c.args.at c.args.l c.args.e e c.requires.i_le_e.1,
       );
       r_in_bounds = c.requires.r_in_bounds;
@@ -28,10 +26,10 @@ lay-requires c =
 
 pub returns : goal.returns
 returns c =
-    let e = ap (λ (n : ℕ). take n c.put_prefix-n.new.into) (sub-zero c.put_prefix-n.result) ∙ c.put_prefix-n.ensures.1.0 in (
+    let e = c.put_prefix-n.ensures.1.0 in (
       c.lay.ensures.0,
       c.lay.ensures.1
           ∙ ap (put_at c.args.out.now c.args.at)
-          (same_around (prefix c.args.f.look) (take (c.put_prefix-n.result - 0) c.put_prefix-n.new.into) (part c.args.i c.args.e c.args.out.now)
+          (same_around (prefix c.args.f.look) (take c.put_prefix-n.result c.put_prefix-n.new.into) (part c.args.i c.args.e c.args.out.now)
           c.args.l c.args.r c.pad_byte.result (pad_byte c.args.f.padding) e c.pad_byte.ensures),
     )

@@ -2,7 +2,8 @@
 use mathlib.Core.Path.{refl, sym, ◌∙◌}
 use native.Mathlib.Omega.{arith}
 use Rattle.buffer.specs.Bytes.{part}
-use Rattle.colour.specs.Sequences.{reinserted}
+use Rattle.colour.specs.Sequences.{reset, reinserted}
+use Rattle.dress.proofs.Comparing.{starts_told}
 use Rattle.dress.proofs.Moving.{not_past, some_left, moved_byte, reset_fits, moved_reset, reached}
 use Rattle.dress.proofs.insert.Goals as goal
 
@@ -12,22 +13,22 @@ loop-w-init c = record { inside = c.requires.1.0; long = refl; left = c.requires
 pub put-v-requires : goal.put-v-requires
 put-v-requires c =
     let k = c.loop-w.invariant in
-    omega (arith, c.loop-w.invariant.inside, c.loop-w.invariant.long, reset_fits k (sym c.starts_with.ensures ∙ c.if-starts_with.true))
+    omega (arith, c.loop-w.invariant.inside, c.loop-w.invariant.long, reset_fits k (starts_told reset (part c.loop-w.r c.args.e c.loop-w.out) c.starts_with.result _ c.starts_with.ensures.value c.if-starts_with.true))
 
 pub put-w-requires : goal.put-w-requires
 put-w-requires c =
     let k = c.loop-w.invariant in
-    omega (arith, c.loop-w.invariant.inside, c.loop-w.invariant.long, c.put-v.ensures.0, c.put-v.auto.dst, reset_fits k (sym c.starts_with.ensures ∙ c.if-starts_with.true))
+    omega (arith, c.loop-w.invariant.inside, c.loop-w.invariant.long, c.put-v.ensures.0, c.put-v.auto.dst, reset_fits k (starts_told reset (part c.loop-w.r c.args.e c.loop-w.out) c.starts_with.result _ c.starts_with.ensures.value c.if-starts_with.true))
 
 pub overflow_add-r : goal.overflow_add-r
-overflow_add-r c = omega (arith, c.ranges.e, reset_fits c.loop-w.invariant (sym c.starts_with.ensures ∙ c.if-starts_with.true))
+overflow_add-r c = omega (arith, c.ranges.e, reset_fits c.loop-w.invariant (starts_told reset (part c.loop-w.r c.args.e c.loop-w.out) c.starts_with.result _ c.starts_with.ensures.value c.if-starts_with.true))
 
 pub loop-w-smaller-then-starts_with : goal.loop-w-smaller-then-starts_with
-loop-w-smaller-then-starts_with c = omega (arith, reset_fits c.loop-w.invariant (sym c.starts_with.ensures ∙ c.if-starts_with.true))
+loop-w-smaller-then-starts_with c = omega (arith, reset_fits c.loop-w.invariant (starts_told reset (part c.loop-w.r c.args.e c.loop-w.out) c.starts_with.result _ c.starts_with.ensures.value c.if-starts_with.true))
 
 pub loop-w-preserved-then-starts_with : goal.loop-w-preserved-then-starts_with
 loop-w-preserved-then-starts_with c =
-    moved_reset c.loop-w.invariant (sym c.starts_with.ensures ∙ c.if-starts_with.true)
+    moved_reset c.loop-w.invariant (starts_told reset (part c.loop-w.r c.args.e c.loop-w.out) c.starts_with.result _ c.starts_with.ensures.value c.if-starts_with.true)
     c.put-v.new.dst c.put-w.new.dst c.put-v.result c.put-w.result c.put-v.ensures c.put-w.ensures (c.put-w.auto.dst ∙ c.put-v.auto.dst)
 
 pub bounds-out-r : goal.bounds-out-r
@@ -50,7 +51,7 @@ pub loop-w-smaller : goal.loop-w-smaller
 loop-w-smaller c = omega (arith, some_left c.loop-w.invariant c.loop-w-test.true)
 
 pub loop-w-preserved : goal.loop-w-preserved
-loop-w-preserved c = moved_byte c.loop-w.invariant c.loop-w-test.true (sym c.starts_with.ensures ∙ c.if-starts_with.false)
+loop-w-preserved c = moved_byte c.loop-w.invariant c.loop-w-test.true (starts_told reset (part c.loop-w.r c.args.e c.loop-w.out) c.starts_with.result _ c.starts_with.ensures.value c.if-starts_with.false)
 
 pub returns : goal.returns
 returns c =

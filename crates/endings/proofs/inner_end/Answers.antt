@@ -1,36 +1,16 @@
 -- `endings::inner_end` meets its contract. Assumes nothing.
 use native.Mathlib.Omega.{arith}
-use Rattle.building.proofs.Bounds.{words_fit}
-use Rattle.lists.proofs.Worded.{narrow_none}
-use Rattle.endings.proofs.Ended.{inner_goes_on, inner_misfits, inner_refused, ends_wider, nowhere_within}
+use Rattle.words.proofs.Answers.{told_fit, told_misfit, told_refused, fitting}
+use Rattle.endings.proofs.Ended.{inner_goes_on, inner_misfits, inner_refused}
 use Rattle.endings.proofs.inner_end.Goals as goal
 
-pub parse_word-o-requires : goal.parse_word-o-requires
-parse_word-o-requires c = (c.requires.0, c.requires.1, narrow_none _ c.no_parts.ensures)
+pub returns-in_default-clause-value : goal.returns-in_default-clause-value
+returns-in_default-clause-value c = inner_misfits _ _ _ _ c.no_parts.ensures (told_misfit _ _ _ c.parse_word.ensures.result_value (cc))
 
-pub further_end-requires : goal.further_end-requires
-further_end-requires c =
-    let w = words_fit _ _ _ _ _ c.in-Fit.is c.parse_word-o.ensures.within in
-    (w.1.0, c.requires.1, w.1.1)
+pub returns-in_default-2-clause-value : goal.returns-in_default-2-clause-value
+returns-in_default-2-clause-value c = inner_refused _ _ _ _ c.no_parts.ensures _ (told_refused _ _ _ c.parse_word.ensures.result_value _ c.in_default.is)
 
-pub returns-in-Fit : goal.returns-in-Fit
-returns-in-Fit c =
-    let w = words_fit _ _ _ _ _ c.in-Fit.is c.parse_word-o.ensures.within in
-    record {
-      value = inner_goes_on _ _ _ _ c.no_parts.ensures _ c.parse_word-o.ensures.result_value _ _ c.in-Fit.is (omega (arith, w.0)) _ c.further_end.ensures.by_index;
-      within = ends_wider _ _ _ _ w.0 c.further_end.ensures.within;
-    }
-
-pub returns-in-Misfit : goal.returns-in-Misfit
-returns-in-Misfit c =
-    record {
-      value = inner_misfits _ _ _ _ c.no_parts.ensures _ c.parse_word-o.ensures.result_value c.in-Misfit.is;
-      within = nowhere_within _ _;
-    }
-
-pub returns-in-Refused : goal.returns-in-Refused
-returns-in-Refused c =
-    record {
-      value = inner_refused _ _ _ _ c.no_parts.ensures _ c.parse_word-o.ensures.result_value _ c.in-Refused.is;
-      within = nowhere_within _ _;
-    }
+pub returns-clause-value : goal.returns-clause-value
+returns-clause-value c =
+    let w = fitting _ _ c.parse_word.ensures.within (c.in-Ok-Some.j, c.in-Ok-Some.p) (cc) in
+    inner_goes_on _ _ _ _ c.no_parts.ensures _ _ (told_fit _ _ _ c.parse_word.ensures.result_value (c.in-Ok-Some.j, c.in-Ok-Some.p) (cc)) (omega (arith, w.0)) _ c.further_end.ensures.by_index

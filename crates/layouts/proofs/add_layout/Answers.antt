@@ -4,7 +4,7 @@ use native.Mathlib.Omega.{arith}
 use lib.ListN.{length}
 use Rattle.measure.specs.declared.Measure.{Measure}
 use Rattle.measure.specs.Measures.{grown, Small}
-use Rattle.measure.proofs.Measured.{small_grown}
+use Rattle.measure.specs.Measured.{small_grown}
 use Rattle.layouts.specs.Runs.{run_text, laid_text}
 use Rattle.layouts.proofs.Runs.{run_fits, runs_laid}
 use Rattle.layouts.proofs.Laying.{left_bytes, left_grown, done_grown}
@@ -12,9 +12,6 @@ use Rattle.layouts.proofs.add_layout.Goals as goal
 
 pub loop-k-init : goal.loop-k-init
 loop-k-init c = (omega arith, (c.requires.small.0, refl))
-
-pub run_at-requires : goal.run_at-requires
-run_at-requires c = c.loop-k-test.true
 
 pub add_run-b-requires : goal.add_run-b-requires
 add_run-b-requires c =
@@ -29,12 +26,6 @@ add_run-b-requires c =
       run_fits = fits;
       small = (c.loop-k.invariant.1.0, omega (arith, whole, left, ap length (runs_laid d from c.args.c c.requires.spans_within s), c.requires.small.1));
     }
-
-pub overflow_add-k : goal.overflow_add-k
-overflow_add-k c = omega (arith, c.loop-k-test.true)
-
-pub loop-k-smaller : goal.loop-k-smaller
-loop-k-smaller c = omega (arith, c.loop-k-test.true)
 
 pub loop-k-preserved : goal.loop-k-preserved
 loop-k-preserved c =

@@ -7,6 +7,3 @@ use Rattle.layouts.proofs.add_layout.Given as goal
 
 abbrev pub invariant-loop-k : goal.invariant-loop-k
 invariant-loop-k l = (l.k ≤ 17) × (Small l.b × (grown l.b (left_from l.s l.d l.from l.c l.k) ≡ grown l.initial.b (left_from l.s l.d l.from l.c 0)))
-
-abbrev pub decreases-loop-k : goal.decreases-loop-k
-decreases-loop-k l = 17 - l.k

@@ -8,7 +8,7 @@ use lib.ListN.{length, replicate}
 use Rattle.colour.specs.Formatting.{pad_byte}
 use Rattle.measure.specs.declared.Measure.{Measure}
 use Rattle.measure.specs.Measures.{grown, Small}
-use Rattle.measure.proofs.Measured.{grown_nil, small_grown}
+use Rattle.measure.specs.Measured.{grown_nil, small_grown}
 use Rattle.dress.proofs.Framing.{opening, Framed, framed_length, open_length, frame_walked}
 use Rattle.layouts.specs.Texts.{text_bytes}
 use Rattle.layouts.specs.Runs.{is_left_out, run_text}
@@ -21,13 +21,13 @@ returns-then-is_left_out c =
     let a = c.args.a in
     sym (grown_nil a) ∙ ap (grown a) (sym (left_out c.args.s c.args.d.now c.args.r (sym c.is_left_out.ensures ∙ c.if-is_left_out.true)))
 
-pub add_text-requires : goal.add_text-requires
-add_text-requires c =
+pub write_text-requires : goal.write_text-requires
+write_text-requires c =
     let is_shown : is_left_out c.args.r.text ≡ false =
     sym c.is_left_out.ensures ∙ c.if-is_left_out.false in
     record {
       text_within = c.requires.run_fits.within;
-      small = (c.requires.small.0, omega (arith, c.requires.small.1, shown_longer c.args.s c.args.d.now c.args.r c.requires.run_fits.width is_shown));
+      fits = (c.requires.small.0, omega (arith, c.requires.small.1, shown_longer c.args.s c.args.d.now c.args.r c.requires.run_fits.width is_shown));
     }
 
 pub returns-then-prefix_len-eq0 : goal.returns-then-prefix_len-eq0
@@ -35,29 +35,29 @@ returns-then-prefix_len-eq0 c =
     let is_shown : is_left_out c.args.r.text ≡ false =
     sym c.is_left_out.ensures ∙ c.if-is_left_out.false in
     let e = sym c.prefix_len.ensures.0 ∙ c.if-prefix_len-eq0.true in
-    c.add_text.ensures ∙ ap (grown c.args.a) (sym (shown_bare c.args.s c.args.d.now c.args.r c.requires.run_fits.width is_shown e))
+    c.write_text.ensures.value ∙ ap (grown c.args.a) (sym (shown_bare c.args.s c.args.d.now c.args.r c.requires.run_fits.width is_shown e))
 
-pub add_text-m-requires : goal.add_text-m-requires
-add_text-m-requires c =
+pub write_text-m-requires : goal.write_text-m-requires
+write_text-m-requires c =
     let is_shown : is_left_out c.args.r.text ≡ false =
     sym c.is_left_out.ensures ∙ c.if-is_left_out.false in
     record {
       text_within = c.requires.run_fits.within;
-      small = shown_countable c.args.s c.args.d.now c.args.r c.requires.run_fits.width is_shown c.none.result c.none.ensures (omega (arith, c.requires.small.1));
+      fits = shown_countable c.args.s c.args.d.now c.args.r c.requires.run_fits.width is_shown c.none.result c.none.ensures (omega (arith, c.requires.small.1));
     }
 
 pub inserted_in-n-requires : goal.inserted_in-n-requires
 inserted_in-n-requires c =
     let is_shown : is_left_out c.args.r.text ≡ false =
     sym c.is_left_out.ensures ∙ c.if-is_left_out.false in
-    shown_resets c.args.s c.args.d.now c.args.r c.requires.run_fits.width is_shown c.none.result c.add_text-m.result c.none.ensures c.add_text-m.ensures (omega (arith, c.requires.small.1))
+    shown_resets c.args.s c.args.d.now c.args.r c.requires.run_fits.width is_shown c.none.result c.write_text-m.result c.none.ensures c.write_text-m.ensures.value (omega (arith, c.requires.small.1))
 
-pub add_text-c-requires : goal.add_text-c-requires
-add_text-c-requires c =
+pub write_text-c-requires : goal.write_text-c-requires
+write_text-c-requires c =
     let is_shown : is_left_out c.args.r.text ≡ false =
     sym c.is_left_out.ensures ∙ c.if-is_left_out.false in
     let is_framed : (Framed c.args.s (frame_of c.args.r.format c.inserted_in-n.result) (text_bytes c.args.r.text c.args.d.now) (run_text c.args.s c.args.d.now c.args.r)) =
-    shown_framed c.args.s c.args.d.now c.args.r c.requires.run_fits.width is_shown c.none.result c.add_text-m.result c.none.ensures c.add_text-m.ensures c.inserted_in-n.result c.inserted_in-n.ensures in
+    shown_framed c.args.s c.args.d.now c.args.r c.requires.run_fits.width is_shown c.none.result c.write_text-m.result c.none.ensures c.write_text-m.ensures.value c.inserted_in-n.result c.inserted_in-n.ensures in
     let opened_small : Small c.opened-b.result =
     let f = c.args.r.format in
     subst Small (sym c.opened-b.ensures) (small_grown c.args.a (opening c.args.s f ++ replicate 0 (pad_byte c.args.r.format.padding)) c.requires.small.0) in
@@ -71,7 +71,7 @@ add_text-c-requires c =
     omega (arith, ap (λ (k : Measure). k.len) c.opened-b.ensures, open_length s w t y h, framed_length s w t y h, c.requires.small.1) in
     record {
       text_within = c.requires.run_fits.within;
-      small = (opened_small, omega (arith, opened_len));
+      fits = (opened_small, omega (arith, opened_len));
     }
 
 pub closed-requires : goal.closed-requires
@@ -79,7 +79,7 @@ closed-requires c =
     let is_shown : is_left_out c.args.r.text ≡ false =
     sym c.is_left_out.ensures ∙ c.if-is_left_out.false in
     let is_framed : (Framed c.args.s (frame_of c.args.r.format c.inserted_in-n.result) (text_bytes c.args.r.text c.args.d.now) (run_text c.args.s c.args.d.now c.args.r)) =
-    shown_framed c.args.s c.args.d.now c.args.r c.requires.run_fits.width is_shown c.none.result c.add_text-m.result c.none.ensures c.add_text-m.ensures c.inserted_in-n.result c.inserted_in-n.ensures in
+    shown_framed c.args.s c.args.d.now c.args.r c.requires.run_fits.width is_shown c.none.result c.write_text-m.result c.none.ensures c.write_text-m.ensures.value c.inserted_in-n.result c.inserted_in-n.ensures in
     let opened_small : Small c.opened-b.result =
     let f = c.args.r.format in
     subst Small (sym c.opened-b.ensures) (small_grown c.args.a (opening c.args.s f ++ replicate 0 (pad_byte c.args.r.format.padding)) c.requires.small.0) in
@@ -91,7 +91,7 @@ closed-requires c =
     let y = run_text s c.args.d.now r in
     let h = is_framed in
     omega (arith, ap (λ (k : Measure). k.len) c.opened-b.ensures, open_length s w t y h, framed_length s w t y h, c.requires.small.1) in
-    let e = c.add_text-c.ensures in
+    let e = c.write_text-c.ensures.value in
     let small = subst Small (sym e) (small_grown c.opened-b.result (text_bytes c.args.r.text c.args.d.now) opened_small) in
     (small, omega (arith, ap (λ (k : Measure). k.len) e, opened_len))
 
@@ -100,9 +100,9 @@ returns c =
     let is_shown : is_left_out c.args.r.text ≡ false =
     sym c.is_left_out.ensures ∙ c.if-is_left_out.false in
     let is_framed : (Framed c.args.s (frame_of c.args.r.format c.inserted_in-n.result) (text_bytes c.args.r.text c.args.d.now) (run_text c.args.s c.args.d.now c.args.r)) =
-    shown_framed c.args.s c.args.d.now c.args.r c.requires.run_fits.width is_shown c.none.result c.add_text-m.result c.none.ensures c.add_text-m.ensures c.inserted_in-n.result c.inserted_in-n.ensures in
+    shown_framed c.args.s c.args.d.now c.args.r c.requires.run_fits.width is_shown c.none.result c.write_text-m.result c.none.ensures c.write_text-m.ensures.value c.inserted_in-n.result c.inserted_in-n.ensures in
     let s = c.args.s in
     let r = c.args.r in
     let d = c.args.d.now in
     c.closed.ensures
-    ∙ frame_walked s (frame_of c.args.r.format c.inserted_in-n.result) (text_bytes c.args.r.text d) (run_text s d r) is_framed c.args.a c.opened-b.result c.add_text-c.result c.opened-b.ensures c.add_text-c.ensures
+    ∙ frame_walked s (frame_of c.args.r.format c.inserted_in-n.result) (text_bytes c.args.r.text d) (run_text s d r) is_framed c.args.a c.opened-b.result c.write_text-c.result c.opened-b.ensures c.write_text-c.ensures.value

@@ -13,9 +13,6 @@ use Rattle.layouts.proofs.put_layout.Goals as goal
 pub loop-k-init : goal.loop-k-init
 loop-k-init c = ((omega arith, (omega arith, refl)), (refl, refl))
 
-pub run_at-requires : goal.run_at-requires
-run_at-requires c = c.loop-k-test.true
-
 pub put_run-b-requires : goal.put_run-b-requires
 put_run-b-requires c =
     let s = c.args.s in
@@ -29,12 +26,6 @@ put_run-b-requires c =
       run_fits = fits;
       r_in_bounds = (omega (arith, c.loop-k.invariant.0.1.1, c.loop-k.invariant.1.0, left, whole, c.requires.c_in_bounds.0), omega (arith, c.loop-k.invariant.0.1.0, c.loop-k.invariant.1.0, left, whole, c.requires.c_in_bounds.1));
     }
-
-pub overflow_add-k : goal.overflow_add-k
-overflow_add-k c = omega (arith, c.loop-k-test.true)
-
-pub loop-k-smaller : goal.loop-k-smaller
-loop-k-smaller c = omega (arith, c.loop-k-test.true)
 
 pub loop-k-preserved : goal.loop-k-preserved
 loop-k-preserved c =

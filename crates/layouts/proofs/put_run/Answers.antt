@@ -19,6 +19,7 @@ use Rattle.layouts.specs.declared.Run.{Run}
 use Rattle.layouts.specs.Runs.{is_left_out, run_text}
 use Rattle.layouts.proofs.Running.{frame_of}
 use Rattle.layouts.proofs.Runs.{left_out, shown_longer, shown_bare, shown_countable, shown_resets, shown_framed}
+use Rattle.measure.specs.declared.sink.Place.{Place}
 use Rattle.layouts.proofs.put_run.Goals as goal
 
 -- a run with a prefix of k bytes, and n bytes inserted
@@ -56,13 +57,13 @@ returns-then-is_left_out c =
     let e = left_out c.args.s c.args.d.now c.args.r (sym c.is_left_out.ensures ∙ c.if-is_left_out.true) in
     (omega (arith, ap length e), sym (put_nil o c.args.at) ∙ ap (put_at o c.args.at) (sym e))
 
-pub put_text-requires : goal.put_text-requires
-put_text-requires c =
+pub write_text-e-requires : goal.write_text-e-requires
+write_text-e-requires c =
     let is_shown : is_left_out c.args.r.text ≡ false =
     sym c.is_left_out.ensures ∙ c.if-is_left_out.false in
     record {
       text_within = c.requires.run_fits.within;
-      d_in_bounds = omega (arith, c.requires.r_in_bounds.0, shown_longer c.args.s c.args.d.now c.args.r c.requires.run_fits.width is_shown);
+      fits = omega (arith, c.requires.r_in_bounds.0, shown_longer c.args.s c.args.d.now c.args.r c.requires.run_fits.width is_shown);
     }
 
 pub returns-then-p-eq0 : goal.returns-then-p-eq0
@@ -70,31 +71,31 @@ returns-then-p-eq0 c =
     let is_shown : is_left_out c.args.r.text ≡ false =
     sym c.is_left_out.ensures ∙ c.if-is_left_out.false in
     let e = sym c.prefix_len-p.ensures.0 ∙ c.if-p-eq0.true in
-    subst (λ (x : List ℕ). Puts c.args.out.now c.put_text.new.out c.args.at x c.put_text.result)
+    subst (λ (x : List ℕ). Puts c.args.out.now c.write_text-e.new.out c.args.at x c.write_text-e.result.0)
     (sym (shown_bare c.args.s c.args.d.now c.args.r c.requires.run_fits.width is_shown e))
-    c.put_text.ensures
+    (ap (λ (p : Place). p.0) c.write_text-e.ensures.value, c.write_text-e.ensures.buffer)
 
-pub add_text-m-requires : goal.add_text-m-requires
-add_text-m-requires c =
+pub write_text-m-requires : goal.write_text-m-requires
+write_text-m-requires c =
     let is_shown : is_left_out c.args.r.text ≡ false =
     sym c.is_left_out.ensures ∙ c.if-is_left_out.false in
     record {
       text_within = c.requires.run_fits.within;
-      small = shown_countable c.args.s c.args.d.now c.args.r c.requires.run_fits.width is_shown c.none.result c.none.ensures c.requires.r_in_bounds.1;
+      fits = shown_countable c.args.s c.args.d.now c.args.r c.requires.run_fits.width is_shown c.none.result c.none.ensures c.requires.r_in_bounds.1;
     }
 
 pub inserted_in-n-requires : goal.inserted_in-n-requires
 inserted_in-n-requires c =
     let is_shown : is_left_out c.args.r.text ≡ false =
     sym c.is_left_out.ensures ∙ c.if-is_left_out.false in
-    shown_resets c.args.s c.args.d.now c.args.r c.requires.run_fits.width is_shown c.none.result c.add_text-m.result c.none.ensures c.add_text-m.ensures c.requires.r_in_bounds.1
+    shown_resets c.args.s c.args.d.now c.args.r c.requires.run_fits.width is_shown c.none.result c.write_text-m.result c.none.ensures c.write_text-m.ensures.value c.requires.r_in_bounds.1
 
 pub overflow_add-b : goal.overflow_add-b
 overflow_add-b c =
     let is_shown : is_left_out c.args.r.text ≡ false =
     sym c.is_left_out.ensures ∙ c.if-is_left_out.false in
     let is_framed : (Framed c.args.s (frame_of c.args.r.format c.inserted_in-n.result) (text_bytes c.args.r.text c.args.d.now) (run_text c.args.s c.args.d.now c.args.r)) =
-    shown_framed c.args.s c.args.d.now c.args.r c.requires.run_fits.width is_shown c.none.result c.add_text-m.result c.none.ensures c.add_text-m.ensures c.inserted_in-n.result c.inserted_in-n.ensures in
+    shown_framed c.args.s c.args.d.now c.args.r c.requires.run_fits.width is_shown c.none.result c.write_text-m.result c.none.ensures c.write_text-m.ensures.value c.inserted_in-n.result c.inserted_in-n.ensures in
     let is_long_lem : (let a = c.args in length (run_text c.args.s c.args.d.now c.args.r) ≡ c.prefix_len-p.result + (c.inserted_in-n.result + (length (text_bytes c.args.r.text c.args.d.now) + 4))) =
     dressed_length c.args.s c.args.d.now c.args.r c.inserted_in-n.result c.prefix_len-p.result is_framed c.prefix_len-p.ensures.0 c.if-p-eq0.false in
     omega (arith, c.requires.r_in_bounds.1, is_long_lem)
@@ -104,22 +105,22 @@ overflow_add-b-2 c =
     let is_shown : is_left_out c.args.r.text ≡ false =
     sym c.is_left_out.ensures ∙ c.if-is_left_out.false in
     let is_framed : (Framed c.args.s (frame_of c.args.r.format c.inserted_in-n.result) (text_bytes c.args.r.text c.args.d.now) (run_text c.args.s c.args.d.now c.args.r)) =
-    shown_framed c.args.s c.args.d.now c.args.r c.requires.run_fits.width is_shown c.none.result c.add_text-m.result c.none.ensures c.add_text-m.ensures c.inserted_in-n.result c.inserted_in-n.ensures in
+    shown_framed c.args.s c.args.d.now c.args.r c.requires.run_fits.width is_shown c.none.result c.write_text-m.result c.none.ensures c.write_text-m.ensures.value c.inserted_in-n.result c.inserted_in-n.ensures in
     let is_long_lem : (let a = c.args in length (run_text c.args.s c.args.d.now c.args.r) ≡ c.prefix_len-p.result + (c.inserted_in-n.result + (length (text_bytes c.args.r.text c.args.d.now) + 4))) =
     dressed_length c.args.s c.args.d.now c.args.r c.inserted_in-n.result c.prefix_len-p.result is_framed c.prefix_len-p.ensures.0 c.if-p-eq0.false in
     omega (arith, c.requires.r_in_bounds.0, c.well_formed.1.1.1.0.0, is_long_lem)
 
-pub put_text-e-requires : goal.put_text-e-requires
-put_text-e-requires c =
+pub write_text-e-requires-2 : goal.write_text-e-requires-2
+write_text-e-requires-2 c =
     let is_shown : is_left_out c.args.r.text ≡ false =
     sym c.is_left_out.ensures ∙ c.if-is_left_out.false in
     let is_framed : (Framed c.args.s (frame_of c.args.r.format c.inserted_in-n.result) (text_bytes c.args.r.text c.args.d.now) (run_text c.args.s c.args.d.now c.args.r)) =
-    shown_framed c.args.s c.args.d.now c.args.r c.requires.run_fits.width is_shown c.none.result c.add_text-m.result c.none.ensures c.add_text-m.ensures c.inserted_in-n.result c.inserted_in-n.ensures in
+    shown_framed c.args.s c.args.d.now c.args.r c.requires.run_fits.width is_shown c.none.result c.write_text-m.result c.none.ensures c.write_text-m.ensures.value c.inserted_in-n.result c.inserted_in-n.ensures in
     let is_long_lem : (let a = c.args in length (run_text c.args.s c.args.d.now c.args.r) ≡ c.prefix_len-p.result + (c.inserted_in-n.result + (length (text_bytes c.args.r.text c.args.d.now) + 4))) =
     dressed_length c.args.s c.args.d.now c.args.r c.inserted_in-n.result c.prefix_len-p.result is_framed c.prefix_len-p.ensures.0 c.if-p-eq0.false in
     record {
       text_within = c.requires.run_fits.within;
-      d_in_bounds = omega (arith, c.requires.r_in_bounds.0, is_long_lem);
+      fits = omega (arith, c.requires.r_in_bounds.0, is_long_lem);
     }
 
 pub slice_bounds-dress_bare-count : goal.slice_bounds-dress_bare-count
@@ -136,16 +137,16 @@ dress_bare-requires c =
     let is_shown : is_left_out c.args.r.text ≡ false =
     sym c.is_left_out.ensures ∙ c.if-is_left_out.false in
     let is_framed : (Framed c.args.s (frame_of c.args.r.format c.inserted_in-n.result) (text_bytes c.args.r.text c.args.d.now) (run_text c.args.s c.args.d.now c.args.r)) =
-    shown_framed c.args.s c.args.d.now c.args.r c.requires.run_fits.width is_shown c.none.result c.add_text-m.result c.none.ensures c.add_text-m.ensures c.inserted_in-n.result c.inserted_in-n.ensures in
+    shown_framed c.args.s c.args.d.now c.args.r c.requires.run_fits.width is_shown c.none.result c.write_text-m.result c.none.ensures c.write_text-m.ensures.value c.inserted_in-n.result c.inserted_in-n.ensures in
     let s = c.args.s in
     let d = c.args.d.now in
     let r = c.args.r in
     let o = c.args.out.now in
     let n = c.inserted_in-n.result in
     let h = is_framed in
-    let place = dressing s d r n c.prefix_len-p.result h c.prefix_len-p.ensures.0 c.if-p-eq0.false o c.put_text-e.new.out c.args.at c.put_text-e.result c.requires.r_in_bounds.0 c.put_text-e.ensures in
-    let room = reset_room s d r n c.prefix_len-p.result h c.prefix_len-p.ensures.0 c.if-p-eq0.false o c.put_text-e.new.out c.args.at c.put_text-e.result c.requires.r_in_bounds.0 c.put_text-e.ensures in
-    let x = part (c.args.at + (c.prefix_len-p.result + n)) c.put_text-e.result c.put_text-e.new.out in
+    let place = dressing s d r n c.prefix_len-p.result h c.prefix_len-p.ensures.0 c.if-p-eq0.false o c.write_text-e-2.new.out c.args.at c.write_text-e-2.result.0 c.requires.r_in_bounds.0 (ap (λ (p : Place). p.0) c.write_text-e-2.ensures.value, c.write_text-e-2.ensures.buffer) in
+    let room = reset_room s d r n c.prefix_len-p.result h c.prefix_len-p.ensures.0 c.if-p-eq0.false o c.write_text-e-2.new.out c.args.at c.write_text-e-2.result.0 c.requires.r_in_bounds.0 (ap (λ (p : Place). p.0) c.write_text-e-2.ensures.value, c.write_text-e-2.ensures.buffer) in
+    let x = part (c.args.at + (c.prefix_len-p.result + n)) c.write_text-e-2.result.0 c.write_text-e-2.new.out in
     record {
       i_le_e = (place.0, ap (λ (q : List ℕ). c.args.at + (length q + (0 + length (reinserted q x)))) c.requires.run_fits.prefix_is ∙ place.1);
       e_in_bounds = room;
@@ -156,8 +157,8 @@ returns c =
     let is_shown : is_left_out c.args.r.text ≡ false =
     sym c.is_left_out.ensures ∙ c.if-is_left_out.false in
     let is_framed : (Framed c.args.s (frame_of c.args.r.format c.inserted_in-n.result) (text_bytes c.args.r.text c.args.d.now) (run_text c.args.s c.args.d.now c.args.r)) =
-    shown_framed c.args.s c.args.d.now c.args.r c.requires.run_fits.width is_shown c.none.result c.add_text-m.result c.none.ensures c.add_text-m.ensures c.inserted_in-n.result c.inserted_in-n.ensures in
-    let x = part (c.args.at + (c.prefix_len-p.result + c.inserted_in-n.result)) c.put_text-e.result c.put_text-e.new.out in
-    let e = ap (λ (q : List ℕ). put_at c.put_text-e.new.out c.args.at (around q 0 (reinserted q x) 0 0)) c.requires.run_fits.prefix_is in
+    shown_framed c.args.s c.args.d.now c.args.r c.requires.run_fits.width is_shown c.none.result c.write_text-m.result c.none.ensures c.write_text-m.ensures.value c.inserted_in-n.result c.inserted_in-n.ensures in
+    let x = part (c.args.at + (c.prefix_len-p.result + c.inserted_in-n.result)) c.write_text-e-2.result.0 c.write_text-e-2.new.out in
+    let e = ap (λ (q : List ℕ). put_at c.write_text-e-2.new.out c.args.at (around q 0 (reinserted q x) 0 0)) c.requires.run_fits.prefix_is in
     dressed_puts c.args.s c.args.d.now c.args.r c.inserted_in-n.result c.prefix_len-p.result is_framed c.prefix_len-p.ensures.0 c.if-p-eq0.false
-    c.args.out.now c.put_text-e.new.out c.args.at c.put_text-e.result c.requires.r_in_bounds.0 c.put_text-e.ensures c.dress_bare.new.out c.dress_bare.result c.dress_bare.ensures.0 (c.dress_bare.ensures.1 ∙ e)
+    c.args.out.now c.write_text-e-2.new.out c.args.at c.write_text-e-2.result.0 c.requires.r_in_bounds.0 (ap (λ (p : Place). p.0) c.write_text-e-2.ensures.value, c.write_text-e-2.ensures.buffer) c.dress_bare.new.out c.dress_bare.result c.dress_bare.ensures.0 (c.dress_bare.ensures.1 ∙ e)

@@ -2,10 +2,8 @@
 -- way back from l, and the members back from j are written. Assumes nothing.
 use Rattle.std.proofs.Common.{◌≡◌, ◌+◌, ◌*◌, ◌-◌, ◌≤◌, length}
 use Rattle.buffer.specs.Buffer.{put_at}
-use Rattle.segments.specs.Pool.{chain_at}
 use Rattle.members.specs.Links.{OnChain}
-use Rattle.leaves.specs.Places.{record_by}
-use Rattle.rows.specs.Texts.{segments_text}
+use Rattle.rows.specs.Materials.{members_in}
 use Rattle.line.proofs.+putting.Given as goal
 
 abbrev pub decreases-put_join : goal.decreases-put_join
@@ -19,10 +17,8 @@ decreases-put_seg l = 3 * l.depth + 1
 
 abbrev pub invariant-put_join-loop-j : goal.invariant-put_join-loop-j
 invariant-put_join-loop-j l =
-    ((l.j ≤ l.l) × OnChain l.cells l.l l.j)
-    × ((length l.out ≡ length l.initial.out)
-    × ((l.b ≡ l.at + length (segments_text l.s l.t (record_by l.numbers l.d) (chain_at l.cells l.j)))
-    × (l.out ≡ put_at l.initial.out l.at (segments_text l.s l.t (record_by l.numbers l.d) (chain_at l.cells l.j)))))
+    ((l.j ≤ l.l) × OnChain l.m.cells.now l.l l.j)
+    × ((l.b ≡ l.at + length (members_in l.m l.j)) × (l.out ≡ put_at l.initial.out l.at (members_in l.m l.j)))
 
 abbrev pub decreases-put_join-loop-j : goal.decreases-put_join-loop-j
 decreases-put_join-loop-j l = l.l - l.j

@@ -1,33 +1,48 @@
-use Rattle.lists.proofs.Itemed.{even_segment, even_parameter, even_refused, items_same, items_after, next_kept, words_kept}
-use Rattle.building.proofs.Bounds.{keeps_fit, fit_items, refused_items}
+-- `parse_even_item` meets its contract. Assumes nothing.
+use Rattle.words.specs.Within.{told, Fitting}
+use Rattle.words.specs.Trying.{fit, ◌then◌, ◌or_else◌}
+use Rattle.building.specs.Reading.{Content, with_words}
+use Rattle.building.specs.Told.{tell_items, plain_item}
+use Rattle.building.proofs.Answers.{handed_on}
+use Rattle.lists.proofs.Itemed.{even_asked, items_after, next_told, next_kept, words_kept}
+use mathlib.Core.Path.{ap}
 use Rattle.lists.proofs.parse_even_item.Goals as goal
 
-pub parse_nested_argument-o-requires : goal.parse_nested_argument-o-requires
-parse_nested_argument-o-requires c = (c.requires.0, c.requires.1, c.requires.2)
+pub returns-in_err-j-clause-cells_after : goal.returns-in_err-j-clause-cells_after
+unfolding told ◌then◌ ◌or_else◌ plain_item tell_items
+returns-in_err-j-clause-cells_after c = rw (handed_on _ _ c.from_residual.ensures.1, ← c.in_err-j.ensures.cells_after)
 
-pub parse_parameter-o-requires : goal.parse_parameter-o-requires
-parse_parameter-o-requires c = (c.requires.0, c.requires.1, c.requires.3.narrow)
+pub returns-in-Some-clause-cells_after : goal.returns-in-Some-clause-cells_after
+unfolding told ◌then◌ ◌or_else◌ plain_item tell_items
+returns-in-Some-clause-cells_after c =
+    rw (← c.in_ok-j.ensures.cells_after, c.in-Some.is, c.with_segment.ensures) (ap (λ (z : Content). fit z c.in-Some.j) (next_told c.args.cells.now c.parse_nested_argument.new.cells c.args.c c.in-Some.k))
 
-pub returns-in-Fit : goal.returns-in-Fit
-returns-in-Fit c =
-    record {
-      cells_after = even_segment _ _ _ _ _ _ _ c.parse_nested_argument-o.ensures.cells_after _ _ c.in-Fit.is _ c.with_segment.ensures;
-      front = (c.parse_nested_argument-o.ensures.keeps 0).front;
-      keeps = λ n d h. let w = keeps_fit _ _ _ _ _ _ _ _ _ _ c.in-Fit.is (c.parse_nested_argument-o.ensures.keeps d) in fit_items _ _ _ _ _ _ _ _ w.from w.end (next_kept _ _ _ _ _ _ _ _ _ _ h w _ c.with_segment.ensures);
-    }
+pub returns-in-Some-clause-keeps : goal.returns-in-Some-clause-keeps
+unfolding Fitting
+returns-in-Some-clause-keeps c = λ n d h.
+    let w = rw c.in-Some.is at (c.in_ok-j.ensures.keeps d).within in
+    (w.from, (w.end, next_kept _ _ _ _ _ _ _ _ _ _ h w _ c.with_segment.ensures))
 
-pub returns-in-Misfit : goal.returns-in-Misfit
-returns-in-Misfit c =
-    record {
-      cells_after = even_parameter _ _ _ _ _ _ _ c.parse_nested_argument-o.ensures.cells_after c.in-Misfit.is _ c.parse_parameter-o.ensures.result_value _ c.item_of.ensures (items_same _ _ _ (c.parse_nested_argument-o.ensures.keeps 0).front c.requires.3);
-      front = (c.parse_nested_argument-o.ensures.keeps 0).front;
-      keeps = λ n d h. words_kept _ _ _ _ _ _ _ _ c.parse_parameter-o.ensures.within (items_after _ _ _ _ _ _ h (c.parse_nested_argument-o.ensures.keeps 0).front) _ c.item_of.ensures;
-    }
+pub returns-in_err-j-2-clause-cells_after : goal.returns-in_err-j-2-clause-cells_after
+unfolding told ◌then◌
+returns-in_err-j-2-clause-cells_after c =
+    rw (handed_on _ _ c.from_residual-in_err-j-2.ensures.1)
+    (even_asked _ _ _ c.args.c _ _ c.in_ok-j.ensures.front c.requires.3 (rw c.in_default.is at c.in_ok-j.ensures.cells_after) _ c.in_err-j-2.ensures.result_value)
 
-pub returns-in-Refused : goal.returns-in-Refused
-returns-in-Refused c =
-    record {
-      cells_after = even_refused _ _ _ _ _ _ _ c.parse_nested_argument-o.ensures.cells_after _ c.in-Refused.is;
-      front = (c.parse_nested_argument-o.ensures.keeps 0).front;
-      keeps = λ n d h. refused_items _ _ _ _ _ _ _;
-    }
+pub returns-in_default-2-clause-cells_after : goal.returns-in_default-2-clause-cells_after
+unfolding told ◌then◌
+returns-in_default-2-clause-cells_after c =
+    even_asked _ _ _ c.args.c _ _ c.in_ok-j.ensures.front c.requires.3 (rw c.in_default.is at c.in_ok-j.ensures.cells_after)
+    _ (rw c.in_default-2.is at c.in_ok-j-2.ensures.result_value)
+
+pub returns-clause-cells_after : goal.returns-clause-cells_after
+unfolding told ◌then◌ tell_items with_words
+returns-clause-cells_after c =
+    even_asked _ _ _ c.args.c _ _ c.in_ok-j.ensures.front c.requires.3 (rw c.in_default.is at c.in_ok-j.ensures.cells_after)
+    _ (rw c.in-Some-2.is at c.in_ok-j-2.ensures.result_value)
+
+pub returns-clause-keeps : goal.returns-clause-keeps
+unfolding Fitting
+returns-clause-keeps c = λ n d h.
+    let w = rw c.in-Some-2.is at c.in_ok-j-2.ensures.within in
+    (w.0, (w.1.0, words_kept _ _ _ _ _ _ (items_after _ _ _ _ _ _ h c.in_ok-j.ensures.front) w.1.1))

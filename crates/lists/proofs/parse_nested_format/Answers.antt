@@ -1,43 +1,36 @@
-use Rattle.lists.proofs.Grouped.{percent_none, percent_fit, percent_fails, percent_refused, asked_kept}
-use Rattle.building.proofs.Bounds.{words_fit, fit_pieces, misfit_pieces, refused_pieces}
+-- `parse_nested_format` meets its contract. Assumes nothing.
+use Rattle.words.specs.Within.{told, Fitting}
+use Rattle.words.specs.Trying.{◌then◌, ◌or_else◌}
+use Rattle.building.specs.Reading.{percent_at}
+use Rattle.building.specs.Told.{tell_pieces}
+use Rattle.building.proofs.Answers.{handed_on}
+use Rattle.lists.proofs.Grouped.{percent_is, asked_kept}
 use Rattle.runs.proofs.Running.{stands_before}
 use native.Mathlib.Omega.{arith}
-use mathlib.Core.Path.{sym, ◌∙◌}
-use mathlib.Core.Bool.{true, false}
+use mathlib.Core.Path.{sym}
 use Rattle.lists.proofs.parse_nested_format.Goals as goal
 
--- src/lists.rt:219:9
-pub returns-then-not-stands_at : goal.returns-then-not-stands_at
-returns-then-not-stands_at c =
-    record {
-      by_index = λ cells. percent_none _ _ _ _ cells (sym c.stands_at.ensures ∙ c.if-not-stands_at.true);
-      keeps = λ n d cells h. misfit_pieces _ _ _ _ _;
-    }
+pub returns-then-not-stands_at-clause-by_index : goal.returns-then-not-stands_at-clause-by_index
+unfolding told ◌then◌ percent_at
+returns-then-not-stands_at-clause-by_index c = λ cells. rw (sym c.if-not-stands_at.ensures, percent_at)
 
--- src/lists.rt:222:9
-pub parse_parameter-o-requires : goal.parse_parameter-o-requires
-parse_parameter-o-requires c = let b = stands_before _ _ _ _ (sym c.stands_at.ensures ∙ c.if-not-stands_at.false) in (omega arith, omega arith, c.requires.2)
+pub parse_parameter-requires : goal.parse_parameter-requires
+parse_parameter-requires c = let b = stands_before _ _ _ _ (sym c.if-not-stands_at.ensures) in (omega arith, omega arith, c.requires.2)
 
--- src/lists.rt:213:1
-pub returns-in-Fit : goal.returns-in-Fit
-returns-in-Fit c =
-    record {
-      by_index = λ cells. percent_fit _ _ _ _ cells (sym c.stands_at.ensures ∙ c.if-not-stands_at.false) _ c.parse_parameter-o.ensures.result_value _ _ c.in-Fit.is;
-      keeps = λ n d cells h. let w = words_fit _ _ _ _ _ c.in-Fit.is c.parse_parameter-o.ensures.within in fit_pieces _ _ _ _ _ _ _ (omega arith) w.1.0 (asked_kept _ _ _ _ _ h w.1.1);
-    }
+pub returns-in_err-j-clause-by_index : goal.returns-in_err-j-clause-by_index
+unfolding told ◌then◌ ◌or_else◌
+returns-in_err-j-clause-by_index c = λ cells. rw (handed_on _ _ c.from_residual.ensures.1) (sym (percent_is _ _ _ c.args.g cells (sym c.if-not-stands_at.ensures) _ c.in_err-j.ensures.result_value))
 
--- src/lists.rt:213:1
-pub returns-in-Misfit : goal.returns-in-Misfit
-returns-in-Misfit c =
-    record {
-      by_index = λ cells. percent_fails _ _ _ _ cells (sym c.stands_at.ensures ∙ c.if-not-stands_at.false) _ c.parse_parameter-o.ensures.result_value c.in-Misfit.is;
-      keeps = λ n d cells h. refused_pieces _ _ _ _ _ _;
-    }
+pub returns-in_default-clause-by_index : goal.returns-in_default-clause-by_index
+unfolding told ◌then◌ ◌or_else◌
+returns-in_default-clause-by_index c = λ cells. sym (percent_is _ _ _ c.args.g cells (sym c.if-not-stands_at.ensures) _ (rw c.in_default.is at c.in_ok-j.ensures.result_value))
 
--- src/lists.rt:213:1
-pub returns-in-Refused : goal.returns-in-Refused
-returns-in-Refused c =
-    record {
-      by_index = λ cells. percent_refused _ _ _ _ cells (sym c.stands_at.ensures ∙ c.if-not-stands_at.false) _ c.parse_parameter-o.ensures.result_value _ c.in-Refused.is;
-      keeps = λ n d cells h. refused_pieces _ _ _ _ _ _;
-    }
+pub returns-clause-by_index : goal.returns-clause-by_index
+unfolding told ◌then◌ ◌or_else◌ tell_pieces
+returns-clause-by_index c = λ cells. sym (percent_is _ _ _ c.args.g cells (sym c.if-not-stands_at.ensures) _ (rw c.in-Some.is at c.in_ok-j.ensures.result_value))
+
+pub returns-clause-keeps : goal.returns-clause-keeps
+unfolding Fitting
+returns-clause-keeps c = λ n d cells h.
+    let w = rw c.in-Some.is at c.in_ok-j.ensures.within in
+    (omega arith, (w.1.0, asked_kept _ _ _ _ _ h w.1.1))

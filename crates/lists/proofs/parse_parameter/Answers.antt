@@ -1,29 +1,22 @@
-use Rattle.lists.proofs.Worded.{parameter_fit, parameter_misfit, parameter_refused, asked_narrow}
-use Rattle.building.proofs.Bounds.{fit_words, misfit_words, refused_words}
-use Rattle.words.proofs.Answers.{format_bounds}
+-- `parse_parameter` meets its contract. Assumes nothing.
+use Rattle.words.specs.Within.{told, Fitting}
+use Rattle.words.specs.Trying.{◌then◌}
+use Rattle.building.proofs.Answers.{handed_on}
+use Rattle.lists.proofs.Worded.{asked_narrow}
 use Rattle.lists.proofs.parse_parameter.Goals as goal
 
--- src/lists.rt:72:1
-pub returns-in-Fit : goal.returns-in-Fit
-returns-in-Fit c =
-    let w = format_bounds _ _ _ _ _ c.in-Fit.is c.parse_format-a.ensures.within in
-    record {
-      result_value = parameter_fit _ _ _ _ _ c.parse_format-a.ensures.result_value _ _ c.in-Fit.is _ c.with_parameter.ensures;
-      within = fit_words _ _ _ _ w.0 w.1 (asked_narrow _ _ _ c.with_parameter.ensures c.requires.2 w.2);
-    }
+pub returns-in_err-j-clause-result_value : goal.returns-in_err-j-clause-result_value
+unfolding told ◌then◌
+returns-in_err-j-clause-result_value c = rw (handed_on _ _ c.from_residual.ensures.1, ← c.in_err-j.ensures.result_value)
 
--- src/lists.rt:72:1
-pub returns-in-Misfit : goal.returns-in-Misfit
-returns-in-Misfit c =
-    record {
-      result_value = parameter_misfit _ _ _ _ _ c.parse_format-a.ensures.result_value c.in-Misfit.is;
-      within = misfit_words _ _;
-    }
+pub returns-in_default-clause-result_value : goal.returns-in_default-clause-result_value
+unfolding told ◌then◌
+returns-in_default-clause-result_value c = rw (← c.in_ok-j.ensures.result_value, c.in_default.is)
 
--- src/lists.rt:72:1
-pub returns-in-Refused : goal.returns-in-Refused
-returns-in-Refused c =
-    record {
-      result_value = parameter_refused _ _ _ _ _ c.parse_format-a.ensures.result_value _ c.in-Refused.is;
-      within = refused_words _ _ _;
-    }
+pub returns-clause-result_value : goal.returns-clause-result_value
+unfolding told ◌then◌
+returns-clause-result_value c = rw (← c.in_ok-j.ensures.result_value, c.in-Some.is, c.with_parameter.ensures)
+
+pub returns-clause-within : goal.returns-clause-within
+unfolding Fitting
+returns-clause-within c = let w = rw c.in-Some.is at c.in_ok-j.ensures.within in (w.0, (w.1, asked_narrow _ _ _ c.with_parameter.ensures c.requires.2 w.2))

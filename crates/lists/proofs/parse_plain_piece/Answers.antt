@@ -1,35 +1,45 @@
-use Rattle.lists.proofs.Grouped.{plain_text, plain_asked, plain_refused, plain_direct, member_told, member_kept, pieces_same, pieces_after}
-use Rattle.building.proofs.Bounds.{keeps_fit, fit_pieces, refused_pieces}
-use mathlib.Core.List.{[]}
+-- `parse_plain_piece` meets its contract. Assumes nothing.
+use Rattle.words.specs.Within.{told, Fitting}
+use Rattle.words.specs.Trying.{fit, ◌then◌, ◌or_else◌}
+use Rattle.building.specs.Reading.{Group, percent_at, with_asked}
+use Rattle.building.specs.Told.{tell_pieces, plain_piece}
+use Rattle.building.proofs.Answers.{handed_on}
+use Rattle.lists.proofs.Grouped.{text_direct, member_told, member_kept, pieces_same, pieces_after}
+use mathlib.Core.Path.{ap, ◌∙◌}
 use Rattle.lists.proofs.parse_plain_piece.Goals as goal
 
-pub parse_string_segment-o-requires : goal.parse_string_segment-o-requires
-parse_string_segment-o-requires c = (c.requires.0, c.requires.1, c.requires.2)
+pub returns-in_err-j-clause-cells_after : goal.returns-in_err-j-clause-cells_after
+unfolding told ◌then◌ ◌or_else◌ plain_piece tell_pieces
+returns-in_err-j-clause-cells_after c = rw (handed_on _ _ c.from_residual.ensures.1, ← c.in_err-j.ensures.cells_after)
 
-pub parse_nested_format-requires : goal.parse_nested_format-requires
-parse_nested_format-requires c = (c.requires.0, c.requires.1, c.requires.3.narrow)
+pub returns-in_err-j-clause-front : goal.returns-in_err-j-clause-front
+returns-in_err-j-clause-front c = (c.parse_string_segment.ensures.keeps 0).front
 
-pub returns-in-Fit : goal.returns-in-Fit
-returns-in-Fit c =
-    let v = keeps_fit _ _ _ _ _ _ _ _ _ _ c.in-Fit.is (c.parse_string_segment-o.ensures.keeps 0) in
-    record {
-      cells_after = plain_text _ _ _ _ _ _ _ c.parse_string_segment-o.ensures.cells_after _ _ c.in-Fit.is _ (member_told _ _ _ _ _ _ _ _ c.requires.3.last (c.parse_string_segment-o.ensures.keeps 0).front v _ _ c.with_member.ensures);
-      front = (c.parse_string_segment-o.ensures.keeps 0).front;
-      keeps = λ n d h. let w = keeps_fit _ _ _ _ _ _ _ _ _ _ c.in-Fit.is (c.parse_string_segment-o.ensures.keeps d) in fit_pieces _ _ _ _ _ _ _ w.from w.end (member_kept _ _ _ _ _ _ _ _ c.requires.3.last (c.parse_string_segment-o.ensures.keeps 0).front w _ h _ (plain_direct _ _ _ c.args.g [] _ _ c.parse_string_segment-o.ensures.cells_after _ _ c.in-Fit.is) _ c.with_member.ensures);
-    }
+pub returns-in-Some-clause-cells_after : goal.returns-in-Some-clause-cells_after
+unfolding told Fitting ◌then◌ ◌or_else◌ plain_piece tell_pieces
+returns-in-Some-clause-cells_after c =
+    let v = rw c.in-Some.is at (c.in_ok-j.ensures.keeps 0).within in
+    rw (← c.in_ok-j.ensures.cells_after, c.in-Some.is) (ap (λ (z : Group). fit z c.in-Some.j) (member_told _ _ _ _ _ c.args.g _ _ c.requires.3.last (c.in_ok-j.ensures.keeps 0).front v _ _ c.with_member.ensures))
 
-pub returns-in-Misfit : goal.returns-in-Misfit
-returns-in-Misfit c =
-    record {
-      cells_after = plain_asked _ _ _ _ _ _ _ c.parse_string_segment-o.ensures.cells_after c.in-Misfit.is _ (c.parse_nested_format.ensures.by_index _) (pieces_same _ _ _ c.requires.3.last (c.parse_string_segment-o.ensures.keeps 0).front);
-      front = (c.parse_string_segment-o.ensures.keeps 0).front;
-      keeps = λ n d h. c.parse_nested_format.ensures.keeps n d _ (pieces_after _ _ _ _ _ h (c.parse_string_segment-o.ensures.keeps 0).front);
-    }
+pub returns-in-Some-clause-front : goal.returns-in-Some-clause-front
+returns-in-Some-clause-front c = (c.parse_string_segment.ensures.keeps 0).front
 
-pub returns-in-Refused : goal.returns-in-Refused
-returns-in-Refused c =
-    record {
-      cells_after = plain_refused _ _ _ _ _ _ _ c.parse_string_segment-o.ensures.cells_after _ c.in-Refused.is;
-      front = (c.parse_string_segment-o.ensures.keeps 0).front;
-      keeps = λ n d h. refused_pieces _ _ _ _ _ _;
-    }
+pub returns-in-Some-clause-keeps : goal.returns-in-Some-clause-keeps
+unfolding told Fitting
+returns-in-Some-clause-keeps c = λ n d h.
+    let w = rw c.in-Some.is at (c.in_ok-j.ensures.keeps d).within in
+    let r = rw c.in-Some.is at c.in_ok-j.ensures.cells_after in
+    (w.from, (w.end, member_kept _ _ _ _ _ _ _ _ c.requires.3.last (c.in_ok-j.ensures.keeps 0).front w _ h _ (text_direct _ _ _ _ _ _ _ r) _ c.with_member.ensures))
+
+pub returns-in-None-clause-cells_after : goal.returns-in-None-clause-cells_after
+unfolding told ◌then◌ ◌or_else◌ plain_piece tell_pieces
+returns-in-None-clause-cells_after c =
+    rw (← c.in_ok-j.ensures.cells_after, c.in-None.is)
+    (c.parse_nested_format.ensures.by_index _
+    ∙ ap (λ (s : Group). percent_at c.args.t.now c.args.from c.args.to then λ y j. fit (with_asked s y) j) (pieces_same _ _ c.args.g c.requires.3.last (c.in_ok-j.ensures.keeps 0).front))
+
+pub returns-in-None-clause-front : goal.returns-in-None-clause-front
+returns-in-None-clause-front c = (c.parse_string_segment.ensures.keeps 0).front
+
+pub returns-in-None-clause-keeps : goal.returns-in-None-clause-keeps
+returns-in-None-clause-keeps c = λ n d h. c.parse_nested_format.ensures.keeps n d _ (pieces_after _ _ _ _ _ h (c.in_ok-j.ensures.keeps 0).front)

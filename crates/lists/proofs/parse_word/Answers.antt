@@ -1,29 +1,23 @@
-use Rattle.lists.proofs.Worded.{word_specifier, word_parameter, word_refused, named_narrow}
-use Rattle.building.proofs.Bounds.{fit_words, refused_words}
-use Rattle.words.proofs.Answers.{metadata_bounds}
+-- `parse_word` meets its contract. Assumes nothing.
+use Rattle.words.specs.Within.{told, Fitting}
+use Rattle.words.specs.Trying.{◌then◌, ◌or_else◌}
+use Rattle.building.specs.Reading.{word_at}
+use Rattle.building.proofs.Answers.{handed_on}
+use Rattle.lists.proofs.Worded.{named_narrow}
 use Rattle.lists.proofs.parse_word.Goals as goal
 
--- src/lists.rt:58:1
-pub returns-in-Fit : goal.returns-in-Fit
-returns-in-Fit c =
-    let w = metadata_bounds _ _ _ _ _ c.in-Fit.is c.parse_metadata-m.ensures.within in
-    record {
-      result_value = word_specifier _ _ _ _ _ c.parse_metadata-m.ensures.result_value _ _ c.in-Fit.is _ c.with_specifier.ensures;
-      within = fit_words _ _ _ _ w.0 w.1 (named_narrow _ _ _ c.with_specifier.ensures c.requires.2);
-    }
+pub returns-in_err-j-clause-result_value : goal.returns-in_err-j-clause-result_value
+unfolding told ◌then◌ ◌or_else◌ word_at
+returns-in_err-j-clause-result_value c = rw (handed_on _ _ c.from_residual.ensures.1, ← c.in_err-j.ensures.result_value)
 
--- src/lists.rt:58:1
-pub returns-in-Misfit : goal.returns-in-Misfit
-returns-in-Misfit c =
-    record {
-      result_value = word_parameter _ _ _ _ _ c.parse_metadata-m.ensures.result_value c.in-Misfit.is _ c.parse_parameter.ensures.result_value;
-      within = c.parse_parameter.ensures.within;
-    }
+pub returns-in-Some-clause-result_value : goal.returns-in-Some-clause-result_value
+unfolding told ◌then◌ ◌or_else◌ word_at
+returns-in-Some-clause-result_value c = rw (← c.in_ok-j.ensures.result_value, c.in-Some.is, c.with_specifier.ensures)
 
--- src/lists.rt:58:1
-pub returns-in-Refused : goal.returns-in-Refused
-returns-in-Refused c =
-    record {
-      result_value = word_refused _ _ _ _ _ c.parse_metadata-m.ensures.result_value _ c.in-Refused.is;
-      within = refused_words _ _ _;
-    }
+pub returns-in-None-clause-result_value : goal.returns-in-None-clause-result_value
+unfolding told ◌then◌ ◌or_else◌ word_at
+returns-in-None-clause-result_value c = rw (← c.in_ok-j.ensures.result_value, c.in-None.is) c.parse_parameter.ensures.result_value
+
+pub returns-in-Some-clause-within : goal.returns-in-Some-clause-within
+unfolding Fitting
+returns-in-Some-clause-within c = let w = rw c.in-Some.is at c.in_ok-j.ensures.within in (w.0, (w.1, named_narrow _ _ _ c.with_specifier.ensures c.requires.2))

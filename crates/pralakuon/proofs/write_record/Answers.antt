@@ -1,19 +1,24 @@
 -- `pralakuon::write_record` is safe and ends: the buffer holds the line of any record. Assumes nothing.
-use Rattle.std.proofs.Common.{arith, sym}
+use Rattle.std.proofs.Common.{arith, sym, length, ◌≤◌}
 use lib.Seq.{length-take-le}
-use Rattle.segments.specs.Pool.{chain_at}
-use Rattle.session.proofs.Places.{line_most}
+use Rattle.record.specs.Layout.{laid_out}
+use Rattle.answer.specs.Rooms.{segments_of, outcome_by}
+use Rattle.outcomes.specs.Program.{line_room, outcome_line}
+use Rattle.outcomes.proofs.Answered.{outcome_most}
 use Rattle.pralakuon.proofs.write_record.Goals as goal
 
-pub put_record-k-requires-clause-j_in_bounds : goal.put_record-k-requires-clause-j_in_bounds
-put_record-k-requires-clause-j_in_bounds g c =
-    omega (arith, line_most c.args.d.now (chain_at c.args.cells.now c.args.n) c.args.i c.args.j)
+pub put_outcome-k-requires-clause-line_room_in_bounds : goal.put_outcome-k-requires-clause-line_room_in_bounds
+put_outcome-k-requires-clause-line_room_in_bounds g c =
+    let r = c.args.reading.now in
+    omega (arith, outcome_most r.form r.settings r.template.now (segments_of r) (laid_out r.form c.args.body.now))
 
 pub slice_bounds-line-end : goal.slice_bounds-line-end
 slice_bounds-line-end g c =
-    omega (arith, c.put_record-k.ensures.0, line_most c.args.d.now (chain_at c.args.cells.now c.args.n) c.args.i c.args.j)
+    let r = c.args.reading.now in
+    omega (arith, c.put_outcome-k.ensures.0, outcome_most r.form r.settings r.template.now (segments_of r) (laid_out r.form c.args.body.now))
 
 pub slice_bounds-written-end : goal.slice_bounds-written-end
 slice_bounds-written-end g c =
-    let m = line_most c.args.d.now (chain_at c.args.cells.now c.args.n) c.args.i c.args.j in
-    sym (length-take-le c.put_record-k.result _ (omega (arith, c.put_record-k.ensures.0, m)))
+    let r = c.args.reading.now in
+    let m = outcome_most r.form r.settings r.template.now (segments_of r) (laid_out r.form c.args.body.now) in
+    sym (length-take-le c.put_outcome-k.result _ (omega (arith, c.put_outcome-k.ensures.0, m)))

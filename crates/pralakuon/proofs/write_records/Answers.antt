@@ -1,10 +1,16 @@
--- `pralakuon::write_records` is safe and ends: each turn stands at a record of the sheet. Assumes nothing.
-use Rattle.session.proofs.Places.{next_lies, fewer}
+-- `pralakuon::write_records` is safe and ends: each record may be asked for its line. Assumes nothing.
+use Rattle.std.proofs.Common.{◌≡◌, ◌∙◌, sym, subst}
+use Rattle.session.specs.Walking.{records_of, Served}
+use Rattle.session.proofs.Places.{served_more}
 use Rattle.pralakuon.proofs.write_records.Goals as goal
 
-pub write_record-requires : goal.write_record-requires
-write_record-requires g c = (c.requires, next_lies c.args.d.now c.loop-w.w c.loop-w-test.true c.loop-w.invariant)
+pub loop-body-init : goal.loop-body-init
+loop-body-init g c =
+    let e : c.into_iter-body-iterator.result ≡ records_of c.args.sheet.now = c.into_iter-body-iterator.ensures.into_iter_gives ∙ c.records-body-items.ensures.records in
+    subst (Served c.args.reading.now) (sym e) c.requires
 
-pub loop-w-smaller : goal.loop-w-smaller
-loop-w-smaller g c =
-    fewer c.args.d.now c.loop-w.w c.loop-w-test.true c.next_record-w.result c.next_record-w.ensures.0
+pub write_record-requires : goal.write_record-requires
+write_record-requires g c = (served_more c.args.reading.now _ _ _ c.in-Some.ensures.steps c.loop-body.invariant).0
+
+pub loop-body-preserved : goal.loop-body-preserved
+loop-body-preserved g c = (served_more c.args.reading.now _ _ _ c.in-Some.ensures.steps c.loop-body.invariant).1

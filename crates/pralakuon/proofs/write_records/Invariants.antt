@@ -1,9 +1,6 @@
--- Each turn stands at a record of the sheet. Assumes nothing.
-use Rattle.session.specs.Walking.{Standing}
+-- Each record that is left may be asked for its line. Assumes nothing.
+use Rattle.session.specs.Walking.{Served}
 use Rattle.pralakuon.proofs.write_records.Given as goal
 
-abbrev pub invariant-loop-w : goal.invariant-loop-w
-invariant-loop-w g l = Standing l.d l.w
-
-abbrev pub decreases-loop-w : goal.decreases-loop-w
-decreases-loop-w g l = l.w.left
+abbrev pub invariant-loop-body : goal.invariant-loop-body
+invariant-loop-body g l = Served l.reading l.body-iterator

@@ -1,17 +1,11 @@
 -- `prefix::ended` meets its contract. Assumes nothing.
-use mathlib.Core.Path.{ap, sym, ◌∙◌}
+use mathlib.Core.Path.{ap, ◌∙◌}
 use native.Mathlib.Omega.{arith}
 use lib.ListN.{length, take, length-append}
 use lib.Seq.{length-take-le}
 use Rattle.buffer.specs.Bytes.{bytes}
-use Rattle.prefix.proofs.Coding.{take_push, closed_one, closed_more}
+use Rattle.prefix.proofs.Coding.{take_push, closed_more}
 use Rattle.prefix.proofs.ended.Goals as goal
-
-pub returns-then-n-eq1 : goal.returns-then-n-eq1
-returns-then-n-eq1 c =
-    let n = length-take-le c.args.n c.args.into.now (omega (arith, c.requires)) in
-    let e = closed_one (take c.args.n c.args.into.now) (omega (arith, n, c.if-n-eq1.true)) in
-    (sym e, sym (ap length e))
 
 pub returns : goal.returns
 returns c =

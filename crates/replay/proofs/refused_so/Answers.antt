@@ -2,26 +2,27 @@
 use Rattle.std.proofs.Common.{ℕ, ◌≡◌, List, length, arith, sym, ap, ◌∙◌, nat_eq}
 use lib.Seq.{length-take-le}
 use Rattle.buffer.specs.Bytes.{same}
+use Rattle.measure.specs.declared.sink.Place.{Place}
 use Rattle.outcomes.specs.Program.{refusal_line}
 use Rattle.outcomes.proofs.Refusals.{refusal_most}
-use Rattle.replay.proofs.Saying.{front, own_refusal, by_number}
+use Rattle.replay.proofs.Saying.{found_same, front, own_refusal, by_number}
 use Rattle.replay.proofs.refused_so.Goals as goal
 
-pub put_refusal-k-requires : goal.put_refusal-k-requires
-put_refusal-k-requires c = omega (arith, refusal_most c.args.r)
+pub write_refusal-k-requires : goal.write_refusal-k-requires
+write_refusal-k-requires c = omega (arith, refusal_most c.args.r)
 
 pub slice_bounds-line-end : goal.slice_bounds-line-end
-slice_bounds-line-end c = omega (arith, c.put_refusal-k.ensures.0, refusal_most c.args.r)
+slice_bounds-line-end c = omega (arith, ap (λ (x : Place). x.0) c.write_refusal-k.ensures.value, refusal_most c.args.r)
 
-pub slice_bounds-same_bytes-end : goal.slice_bounds-same_bytes-end
-slice_bounds-same_bytes-end c =
-    sym (length-take-le c.put_refusal-k.result _ (omega (arith, c.put_refusal-k.ensures.0, refusal_most c.args.r)))
+pub slice_bounds-eq-end : goal.slice_bounds-eq-end
+slice_bounds-eq-end c =
+    sym (length-take-le c.write_refusal-k.result.0 _ (omega (arith, ap (λ (x : Place). x.0) c.write_refusal-k.ensures.value, refusal_most c.args.r)))
 
 pub returns-then-n-eq0 : goal.returns-then-n-eq0
 returns-then-n-eq0 c =
-    let k : c.put_refusal-k.result ≡ length (refusal_line c.args.r) = omega (arith, c.put_refusal-k.ensures.0) in
-    let f = front _ _ (refusal_line c.args.r) c.put_refusal-k.result k c.put_refusal-k.ensures.1 in
-    c.same_bytes.ensures ∙ ap (λ (x : List ℕ). same x c.args.output.now) f ∙ sym (own_refusal _ _ c.args.r c.if-n-eq0.true)
+    let k : c.write_refusal-k.result.0 ≡ length (refusal_line c.args.r) = omega (arith, ap (λ (x : Place). x.0) c.write_refusal-k.ensures.value) in
+    let f = front _ _ (refusal_line c.args.r) c.write_refusal-k.result.0 k c.write_refusal-k.ensures.buffer in
+    found_same _ _ _ c.eq.ensures ∙ ap (λ (x : List ℕ). same x c.args.output.now) f ∙ sym (own_refusal _ _ c.args.r c.if-n-eq0.true)
 
 pub returns : goal.returns
 returns c =

@@ -1,13 +1,13 @@
 -- `stands_at` meets its contract. Assumes nothing.
-use borrow.Author.Tests.{lt-ltb}
-use mathlib.Core.Path.{sym}
+use native.Mathlib.Omega.{arith}
+use Rattle.std.proofs.lemmas.Grind.{common_steps}
 use Rattle.runs.specs.Runs.{stands}
-use Rattle.runs.proofs.Running.{stands_end}
 use Rattle.runs.proofs.stands_at.Goals as goal
 
 pub returns-then-i-e : goal.returns-then-i-e
 unfolding stands
-returns-then-i-e c = rw (lt-ltb _ _ c.if-i-e.true)
+returns-then-i-e c = grind (arith, common_steps)
 
-pub returns : goal.returns
-returns c = sym (stands_end _ _ _ _ c.if-i-e.false)
+pub returns-else-i-e : goal.returns-else-i-e
+unfolding stands
+returns-else-i-e c = grind (arith, common_steps)

@@ -1,13 +1,13 @@
--- `settings::settings_of` meets its contract. Assumes nothing.
-use mathlib.Core.Path.{ap}
-use Prim.Native.Nat.{◌/◌, ◌%◌}
-use lib.Dec.{eqb}
-use Rattle.widths.specs.declared.Rule.{Rule}
+-- `settings::settings_of` meets its contract: the bits by division. Assumes nothing.
+use Rattle.record.proofs.Bits.{bit_test, bit_test_lowest}
 use Rattle.settings.specs.Bits.{settings_of}
 use Rattle.settings.proofs.settings_of.Goals as goal
 
 pub returns : goal.returns
 unfolding settings_of
 returns c =
-    let b = c.args.b in
-    ap (λ (r : Rule). record { colour = eqb (b % 2) 1; straight = eqb (b / 2 % 2) 1; rule = r }) c.rule_of.ensures
+    λ i. record {
+      colour = bit_test_lowest c.args.b i;
+      straight = bit_test c.args.b 1 i;
+      rule = c.rule_of.ensures i;
+    }

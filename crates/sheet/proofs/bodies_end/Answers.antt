@@ -1,25 +1,19 @@
 -- `sheet::bodies_end` meets its contract. Assumes nothing.
-use native.Mathlib.Omega.{arith}
-use Prim.Native.Nat.{◌-◌}
-use Rattle.sheet.proofs.Walk.{bytes_next, bytes_end}
+use Rattle.std.proofs.Common.{◌+◌, ◌-◌, ◌*◌, ap, arith}
+use Rattle.sheet.specs.Sheets.{body_bytes}
+use Rattle.sheet.proofs.Walk.{bytes_next, bytes_end, next_place}
 use Rattle.sheet.proofs.bodies_end.Goals as goal
 
-pub loop-left-init : goal.loop-left-init
-loop-left-init c = omega (arith, c.requires)
-
-pub body_length-end-requires : goal.body_length-end-requires
-body_length-end-requires c = omega (arith, c.loop-left.invariant, c.loop-left-test.true)
-
-pub overflow_add-end : goal.overflow_add-end
-overflow_add-end c = omega (arith, c.body_length-end.ensures.1, c.loop-left.invariant, c.requires)
-
-pub loop-left-preserved : goal.loop-left-preserved
-loop-left-preserved c =
+pub loop-k-preserved : goal.loop-k-preserved
+loop-k-preserved c =
     let d = c.args.d.now in
-    let e = bytes_next c.loop-left.left (c.loop-left.left - 1) d c.loop-left.i 0 (omega (arith, c.loop-left-test.true)) in
-    omega (arith, e, c.loop-left.invariant, c.body_length-end.ensures, c.loop-left-test.true)
+    let left = c.args.n - c.loop-k.k in
+    let i = 2 + 4 * c.loop-k.k in
+    let e = bytes_next left (c.args.n - (c.loop-k.k + 1)) d i 0 (omega arith) in
+    let p = ap (body_bytes (c.args.n - (c.loop-k.k + 1)) d) (next_place 2 c.loop-k.k) in
+    omega (arith, e, p)
 
 pub returns : goal.returns
 returns c =
-    let e = bytes_end c.loop-left.left c.args.d.now c.loop-left.i 0 (omega (arith, c.loop-left-test.false)) in
-    omega (arith, e, c.loop-left.invariant)
+    let e = bytes_end (c.args.n - c.loop-k.k) c.args.d.now (2 + 4 * c.loop-k.k) 0 (omega arith) in
+    omega (arith, e)

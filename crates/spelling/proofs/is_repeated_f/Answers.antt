@@ -1,26 +1,19 @@
--- `is_repeated_f` meets its contract: the loop keeps whether the rest is `f` repeated. Assumes nothing.
-use native.Mathlib.Omega.{arith}
-use mathlib.Core.Path.{refl, sym, ◌∙◌}
-use Rattle.runs.proofs.Matching.{repeat_on, repeat_off, repeat_end}
+-- `is_repeated_f` meets its contract. Assumes nothing.
+use Rattle.std.proofs.Common.{rules, tests}
+use Rattle.std.proofs.lemmas.Iterator.{YieldsList-from_slice}
+use Rattle.std.proofs.lemmas.Iterator.Search.{all_from_yields_List}
+use Prim.Native.Nat.{ℕ}
+use mathlib.Core.Path.{ap, ◌∙◌}
+use lib.Dec.{eqb}
+use lib.ListN.{replicate}
+use Rattle.buffer.specs.Bytes.{part, same}
+use Rattle.buffer.proofs.Parts.{part_length}
+use Rattle.spelling.proofs.Seeing.{repeats_same}
 use Rattle.spelling.proofs.is_repeated_f.Goals as goal
 
-pub loop-i-init : goal.loop-i-init
-loop-i-init c = (omega arith, refl)
-
-pub bounds-t-i : goal.bounds-t-i
-bounds-t-i c = omega arith
-
-pub returns-then-t-i-ne102 : goal.returns-then-t-i-ne102
-returns-then-t-i-ne102 c = sym (sym c.loop-i.invariant.1 ∙ repeat_off 0x66 c.args.t.now c.loop-i.i c.args.to (omega arith) (omega arith) c.if-t-i-ne102.true)
-
-pub overflow_add-i : goal.overflow_add-i
-overflow_add-i c = omega arith
-
-pub loop-i-smaller : goal.loop-i-smaller
-loop-i-smaller c = omega arith
-
-pub loop-i-preserved : goal.loop-i-preserved
-loop-i-preserved c = (omega arith, sym (repeat_on 0x66 c.args.t.now c.loop-i.i c.args.to (omega arith) (omega arith) c.if-t-i-ne102.false) ∙ c.loop-i.invariant.1)
-
 pub returns : goal.returns
-returns c = sym (sym c.loop-i.invariant.1 ∙ repeat_end 0x66 c.args.t.now c.loop-i.i c.args.to (omega arith))
+returns c =
+    let w = part c.args.from c.args.to c.args.t.now in
+    all_from_yields_List (λ b. eqb b 0x66) _ _ _ c.all.ensures.ran (YieldsList-from_slice w cc) (λ x b q k. search (rules, tests))
+    ∙ repeats_same 0x66 w
+    ∙ ap (λ (n : ℕ). same (replicate n 0x66) w) (part_length c.args.t.now c.args.from c.args.to c.requires.0 c.requires.1)

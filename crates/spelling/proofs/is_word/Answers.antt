@@ -1,39 +1,20 @@
--- `is_word` meets its contract: the loop keeps whether the rest is the rest of the word. Assumes nothing.
-use native.Mathlib.Omega.{arith}
-use mathlib.Core.Path.{refl, sym, ◌∙◌}
-use native.Mathlib.Nat.{add-zero}
-use Rattle.spelling.proofs.Seeing.{length_differs, word_on, word_off, word_end_lem}
+-- `is_word` meets its contract. Assumes nothing.
+use Rattle.std.proofs.Common.{rules, tests}
+use Rattle.std.proofs.lemmas.Iterator.{YieldsList-from_slice, YieldsList-from_zip}
+use Rattle.std.proofs.lemmas.Iterator.Search.{all_from_yields_List}
+use mathlib.Core.Path.{sym, ◌∙◌}
+use lib.Dec.{eqb}
+use borrow.Author.Tests.{ne_eqb}
+use Rattle.runs.proofs.Matching.{same_lengths}
+use Rattle.spelling.specs.Tables.{compared_byte}
+use Rattle.spelling.proofs.Seeing.{pairs_same, seen_length}
 use Rattle.spelling.proofs.is_word.Goals as goal
 
-pub overflow_sub-to : goal.overflow_sub-to
-overflow_sub-to c = omega arith
+pub returns-then-w-word : goal.returns-then-w-word
+returns-then-w-word c =
+    all_from_yields_List (λ p. eqb p.0 (compared_byte c.args.caseless p.1)) c.all.new.self _ _ c.all.ensures.ran
+    (YieldsList-from_zip (YieldsList-from_slice c.args.w.now cc) (YieldsList-from_slice c.args.word.now cc)) (λ x b q k. search (rules, tests))
+    ∙ pairs_same _ _ _ c.if-w-word.true
 
-pub returns-then-w-to : goal.returns-then-w-to
-returns-then-w-to c = sym (length_differs c.args.w.now c.args.caseless c.args.t.now c.args.from c.args.to (omega arith) (omega arith) c.if-w-to.true)
-
-pub loop-k-init : goal.loop-k-init
-loop-k-init c = (omega arith, rw add-zero refl)
-
-pub bounds-w-k : goal.bounds-w-k
-bounds-w-k c = omega arith
-
-pub overflow_add-from : goal.overflow_add-from
-overflow_add-from c = omega arith
-
-pub bounds-t-from : goal.bounds-t-from
-bounds-t-from c = omega arith
-
-pub returns-then-w-k : goal.returns-then-w-k
-returns-then-w-k c = sym (sym c.loop-k.invariant.1 ∙ word_off c.args.w.now c.args.caseless c.args.t.now c.args.from c.args.to c.loop-k.k (omega arith) (omega arith) (omega arith) (λ q. c.if-w-k.true (q ∙ sym c.seen_byte.ensures)))
-
-pub overflow_add-k : goal.overflow_add-k
-overflow_add-k c = omega arith
-
-pub loop-k-smaller : goal.loop-k-smaller
-loop-k-smaller c = omega arith
-
-pub loop-k-preserved : goal.loop-k-preserved
-loop-k-preserved c = (omega arith, sym (word_on c.args.w.now c.args.caseless c.args.t.now c.args.from c.args.to c.loop-k.k (omega arith) (omega arith) (omega arith) (c.if-w-k.false ∙ c.seen_byte.ensures)) ∙ c.loop-k.invariant.1)
-
-pub returns : goal.returns
-returns c = sym (sym c.loop-k.invariant.1 ∙ word_end_lem c.args.w.now c.args.caseless c.args.t.now c.args.from c.args.to c.loop-k.k (omega arith) (omega arith))
+pub returns-else-w-word : goal.returns-else-w-word
+returns-else-w-word c = ne_eqb _ _ c.if-w-word.false ∙ sym (same_lengths _ _ (λ e. c.if-w-word.false (e ∙ seen_length _ _)))

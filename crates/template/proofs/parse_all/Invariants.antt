@@ -1,3 +1,4 @@
+-- The top level so far: its segments, and where the reading goes on. Assumes nothing.
 use Rattle.template.proofs.Topped.{top_of}
 use Rattle.words.specs.Trying.{repeated}
 use Rattle.segments.specs.Segments.{none}

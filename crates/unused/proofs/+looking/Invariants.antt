@@ -35,7 +35,7 @@ abbrev pub invariant-look_group-loop-i : goal.invariant-look_group-loop-i
 invariant-look_group-loop-i l =
     ((l.from ≤ l.i) × (l.i ≤ l.to))
     × ((n : ℕ) × (l.to - l.i ≤ n)
-    × (repeated (look_piece l.t (look_brace_in l.left l.even l.t) l.to) n l.i (place_told l.u) ≡ look_group_in l.left l.even l.t l.from l.to))
+    × (repeated (look_piece l.t (look_brace_in l.left l.even l.t) l.to) n l.i (place_told l.unused) ≡ look_group_in l.left l.even l.t l.from l.to))
 
 abbrev pub decreases-look_group-loop-i : goal.decreases-look_group-loop-i
 decreases-look_group-loop-i l = l.to - l.i

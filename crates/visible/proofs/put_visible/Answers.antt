@@ -1,23 +1,32 @@
 -- `visible::put_visible` meets its contract. Assumes nothing.
-use native.Mathlib.Omega.{arith}
-use mathlib.Core.Path.{sym}
+use Rattle.std.proofs.Common.{◌≤◌, ap, sym, ◌∙◌, length, arith}
+use Rattle.buffer.proofs.Fitting.{written_fits, written_not}
+use Rattle.measure.specs.declared.sink.Count.{Count}
+use Rattle.measure.specs.declared.sink.Place.{Place}
 use Rattle.colour.specs.Sequences.{visible}
-use Rattle.buffer.proofs.Fitting.{written_not}
-use Rattle.visible.proofs.Outcomes.{visible_shorter, put_fits}
+use Rattle.visible.proofs.Outcomes.{visible_shorter}
 use Rattle.visible.proofs.put_visible.Goals as goal
+use Rattle.visible.proofs.put_visible.Goals.{then-out-s+else-out-n, else-out-s}
 
-pub put_stretches-requires : goal.put_stretches-requires
-put_stretches-requires c = omega (arith, visible_shorter c.args.s.now, c.if-s-out.true)
-
-pub returns-then-s-out : goal.returns-then-s-out
-returns-then-s-out c =
-    let h = c.if-s-out.true in
-    put_fits c.args.out.now _ (visible c.args.s.now) _ (omega (arith, visible_shorter c.args.s.now, h)) c.put_stretches.ensures
+pub write_visible-n-requires : goal.write_visible-n-requires
+write_visible-n-requires c = omega (arith, visible_shorter c.args.s.now)
 
 pub returns-then-out-n : goal.returns-then-out-n
-returns-then-out-n c = (c.visible_len-n.ensures, sym (written_not c.args.out.now (visible c.args.s.now) (omega (arith, c.if-out-n.true, c.visible_len-n.ensures))))
+returns-then-out-n c =
+    let n = ap (λ (n : Count). n.0) c.write_visible-n.ensures.value in
+    (omega (arith, n), sym (written_not c.args.out.now (visible c.args.s.now) (omega (arith, n))))
+
+pub write_visible-requires : goal.write_visible-requires
+write_visible-requires c = elim c.if-out-s.branch [
+  | then-out-s+else-out-n w ↦ omega (arith, ap (λ (n : Count). n.0) w.write_visible-n.ensures.value, w.if-out-n.false)
+  | else-out-s w ↦ omega (arith, visible_shorter c.args.s.now, w.if-out-s.false)
+]
 
 pub returns : goal.returns
 returns c =
-    let h = c.if-out-n.false in
-    put_fits c.args.out.now _ (visible c.args.s.now) _ (omega (arith, c.visible_len-n.ensures, h)) c.put_stretches-2.ensures
+    let room : length (visible c.args.s.now) ≤ length c.args.out.now = elim c.if-out-s.branch [
+      | then-out-s+else-out-n w ↦ omega (arith, ap (λ (n : Count). n.0) w.write_visible-n.ensures.value, w.if-out-n.false)
+      | else-out-s w ↦ omega (arith, visible_shorter c.args.s.now, w.if-out-s.false)
+    ] in
+    let n = ap (λ (at : Place). at.0) c.write_visible.ensures.value in
+    (omega (arith, n), c.write_visible.ensures.buffer ∙ sym (written_fits c.args.out.now (visible c.args.s.now) room))

@@ -8,5 +8,5 @@ use Rattle.letters.proofs.marking.left_in.Goals as goal
 pub returns-then-left-eq0 : goal.returns-then-left-eq0
 returns-then-left-eq0 c = (c.size_of.ensures.0 ∙ sym (left_first c.args.t.now c.args.i c.args.left false c.if-left-eq0.true), c.size_of.ensures.1)
 
-pub returns : goal.returns
-returns c = (sym (left_on _ _ c.if-left-eq0.false), omega (arith, c.if-left-eq0.false))
+pub returns-else-left-eq0 : goal.returns-else-left-eq0
+returns-else-left-eq0 c = (sym (left_on _ _ c.if-left-eq0.false), omega (arith, c.if-left-eq0.false))

@@ -6,5 +6,5 @@ use Rattle.letters.proofs.marking.letter_in.Goals as goal
 pub returns-then-left-eq0 : goal.returns-then-left-eq0
 returns-then-left-eq0 c = c.opens_letter.ensures ∙ sym (letter_first c.args.t.now c.args.i c.args.left c.args.letter c.if-left-eq0.true)
 
-pub returns : goal.returns
-returns c = sym (letter_on _ _ _ c.if-left-eq0.false)
+pub returns-else-left-eq0 : goal.returns-else-left-eq0
+returns-else-left-eq0 c = sym (letter_on _ _ _ c.if-left-eq0.false)

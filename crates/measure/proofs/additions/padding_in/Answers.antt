@@ -18,6 +18,5 @@ unfolding padding_in
 returns c =
     let due = c.args.f.width - (c.args.x.count - c.args.x.scan.sequences) in
     let s = c.args.s.straight in
-    let e : c.less-2.result ≡ due - cond s 0 c.args.n =
-    omega (arith, c.less.ensures, c.less-due.ensures, c.against_padding.ensures, c.less-2.ensures) in
+    let e : c.saturating_sub.result ≡ due - cond s 0 c.args.n = omega (arith, c.saturating_sub-seen.ensures, c.saturating_sub-due.ensures, c.against_padding.ensures, c.saturating_sub.ensures) in
     e ∙ counted_less s due c.args.n

@@ -5,7 +5,7 @@ use lib.ListN.{length, replicate, length-replicate}
 use Rattle.colour.specs.Formatting.{prefix_in, pad_byte, ending}
 use Rattle.measure.specs.declared.Measure.{Measure}
 use Rattle.measure.specs.Measures.{grown, more, Small}
-use Rattle.measure.proofs.Measured.{grown_append, small_grown, small_more}
+use Rattle.measure.specs.Measured.{grown_append, small_grown, small_more}
 use Rattle.measure.proofs.Framed.{grown_ending, no_ending}
 use Rattle.measure.proofs.framing.closed.Goals as goal
 
@@ -32,7 +32,7 @@ sequence-requires c =
     let e : c.pad-e.result ≡ grown a w = c.pad-e.ensures ∙ ap (λ (y : Measure). grown y w) c.longer-d.ensures in
     let q : Small (grown a w) = small_grown a w (small_more c.args.c c.args.n c.requires.0) in
     let l : length w ≡ c.args.r = length-replicate c.args.r z in
-    (subst Small (sym e) q, (omega (arith, c.requires.1, ap (λ (y : Measure). y.len) e, l), omega arith))
+    ((subst Small (sym e) q, omega (arith, c.requires.1, ap (λ (y : Measure). y.len) e, l)), omega arith)
 
 pub returns : goal.returns
 returns c =

@@ -7,7 +7,7 @@ use lib.ListN.{replicate}
 use Rattle.colour.specs.Formatting.{prefix_in, pad_byte}
 use Rattle.measure.specs.declared.Measure.{Measure}
 use Rattle.measure.specs.Measures.{grown, Small}
-use Rattle.measure.proofs.Measured.{grown_append, small_grown}
+use Rattle.measure.specs.Measured.{grown_append, small_grown}
 use Rattle.measure.proofs.Framed.{grown_prefix, no_prefix}
 use Rattle.measure.proofs.framing.opened.Goals as goal
 

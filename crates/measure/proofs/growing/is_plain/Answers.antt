@@ -1,24 +1,12 @@
--- `measure::growing::is_plain` meets its contract. The invariant: the rest from here is plain exactly if the whole is. Assumes nothing.
-use borrow.Author.Rules.{rules}
-use native.Mathlib.Omega.{arith}
-use mathlib.Core.Path.{refl, sym, ◌∙◌}
-use Rattle.measure.proofs.Plain.{plain_on, not_ascii, not_free, plain_end_lem}
+-- `measure::growing::is_plain` meets its contract. Assumes nothing.
+use Rattle.std.proofs.Common.{◌∙◌, sym, arith}
+use Rattle.std.proofs.lemmas.Grind.{common_steps}
+use Rattle.std.proofs.lemmas.Iterator.{YieldsList-from_slice}
+use Rattle.std.proofs.lemmas.Iterator.Search.{all_from_yields_List}
+use Rattle.measure.proofs.Plain.{is_plain_byte, plain_all}
 use Rattle.measure.proofs.growing.is_plain.Goals as goal
 
-pub loop-i-init : goal.loop-i-init
-loop-i-init c = (omega arith, refl)
-
-pub returns-then-s-i-gt127 : goal.returns-then-s-i-gt127
-returns-then-s-i-gt127 c = sym (not_ascii c.args.s.now c.loop-i.i c.loop-i-test.true (omega (arith, c.if-s-i-gt127.true))) ∙ c.loop-i.invariant.1
-
-pub returns-then-s-i-eq27 : goal.returns-then-s-i-eq27
-returns-then-s-i-eq27 c = sym (not_free c.args.s.now c.loop-i.i c.loop-i-test.true (omega (arith, c.if-s-i-gt127.false)) c.if-s-i-eq27.true) ∙ c.loop-i.invariant.1
-
-pub loop-i-preserved : goal.loop-i-preserved
-loop-i-preserved c = (
-  search rules,
-  sym (plain_on c.args.s.now c.loop-i.i c.loop-i-test.true (omega (arith, c.if-s-i-gt127.false)) c.if-s-i-eq27.false) ∙ c.loop-i.invariant.1,
-)
-
 pub returns : goal.returns
-returns c = sym (plain_end_lem c.args.s.now c.loop-i.i c.loop-i-test.false) ∙ c.loop-i.invariant.1
+returns c =
+    all_from_yields_List is_plain_byte _ _ c.all.result c.all.ensures.ran (YieldsList-from_slice c.args.s.now cc) (λ x b q k. grind (arith, common_steps, k))
+    ∙ sym (plain_all c.args.s.now)

@@ -4,7 +4,7 @@ use Prim.Native.Nat.{ℕ}
 use lib.ListN.{replicate}
 use Rattle.colour.specs.Formatting.{pad_byte}
 use Rattle.measure.specs.Measures.{grown}
-use Rattle.measure.proofs.Measured.{grown_nil}
+use Rattle.measure.specs.Measured.{grown_nil}
 use Rattle.measure.proofs.Framed.{grown_pad}
 use Rattle.measure.proofs.padding.pad.Goals as goal
 

@@ -1,5 +1,4 @@
--- `measure::padding::scan_padding` meets its contract. The invariant: the search of the padding left from here is that of all of it.
--- Assumes nothing.
+-- `measure::padding::scan_padding` meets its contract. Assumes nothing.
 use native.Mathlib.Omega.{arith}
 use borrow.Author.Rules.{rules}
 use mathlib.Core.Path.{◌≡◌, ap, sym, ◌∙◌}
@@ -22,21 +21,21 @@ returns-then-rests c =
     let h = rests_outside c.args.t.state c.args.t.held (sym c.rests.ensures ∙ c.if-rests.true) in
     sym (scan_free (replicate n (pad_byte z)) (free_pad z n) c.args.t h.0 h.1)
 
-pub loop-i-init : goal.loop-i-init
-loop-i-init c = (search rules, (ap (λ (k : ℕ). scan c.args.t (replicate k c.pad_byte-b.result)) (sub-zero c.args.n), search rules))
+pub loop-init : goal.loop-init
+loop-init c = (search rules, (ap (λ (k : ℕ). scan c.args.t (replicate k c.pad_byte-b.result)) (sub-zero c.args.n), search rules))
 
-pub loop-i-preserved : goal.loop-i-preserved
-loop-i-preserved c =
+pub loop-preserved : goal.loop-preserved
+loop-preserved c =
     let n = c.args.n in
     let b = c.pad_byte-b.result in
-    let a = act_of c.loop-i.u.state b in
-    let e : c.step-u.result ≡ moved a c.loop-i.u = c.step-u.ensures in (
+    let a = act_of c.loop.u.state b in
+    let e : c.step-u.result ≡ moved a c.loop.u = c.step-u.ensures in (
       search rules,
       (
-        ap (λ (v : Scan). scan v (replicate (n - (c.loop-i.i + 1)) b)) e ∙ sym (same_step c.loop-i.u n c.loop-i.i b c.loop-i-test.true) ∙ c.loop-i.invariant.1.0,
+        ap (λ (v : Scan). scan v (replicate (n - (c.loop.counter + 1)) b)) e ∙ sym (same_step c.loop.u n c.loop.counter b c.loop-test.true) ∙ c.loop.invariant.1.0,
         (
-          omega (arith, ap (λ (v : Scan). v.held) e, ap (λ (v : Scan). v.sequences) e, sequences_grow a c.loop-i.u, c.loop-i.invariant.1.1.0),
-          omega (arith, ap (λ (v : Scan). v.resets) e, resets_grow a c.loop-i.u, c.loop-i.invariant.1.1.1),
+          omega (arith, ap (λ (v : Scan). v.held) e, ap (λ (v : Scan). v.sequences) e, sequences_grow a c.loop.u, c.loop.invariant.1.1.0),
+          omega (arith, ap (λ (v : Scan). v.resets) e, resets_grow a c.loop.u, c.loop.invariant.1.1.1),
         ),
       ),
     )
@@ -44,5 +43,5 @@ loop-i-preserved c =
 pub returns : goal.returns
 returns c =
     let n = c.args.n in
-    sym (same_end c.loop-i.u n c.loop-i.i c.pad_byte-b.result c.loop-i-test.false) ∙ c.loop-i.invariant.1.0
+    sym (same_end c.loop.u n c.loop.counter c.pad_byte-b.result c.loop-test.false) ∙ c.loop.invariant.1.0
     ∙ ap (λ (b : ℕ). scan c.args.t (replicate n b)) c.pad_byte-b.ensures

@@ -1,12 +1,9 @@
 -- `measure::seeing::see` meets its contract. Assumes nothing.
 use native.Mathlib.Omega.{arith}
-use mathlib.Core.Path.{◌≡◌, refl, ap, sym, subst, ◌∙◌}
-use mathlib.Core.Bool.{true, false}
+use mathlib.Core.Path.{◌≡◌, refl, ap, sym, ◌∙◌}
 use mathlib.Core.List.{List, [], ◌∷◌}
 use Prim.Native.Nat.{ℕ, ◌-◌, ◌≤◌}
 use lib.ListN.{length, get_or}
-use lib.Seq.{take_all}
-use Rattle.buffer.specs.Bytes.{part}
 use Rattle.characters.specs.Characters.{chars}
 use Rattle.characters.proofs.Counting.{chars_length}
 use Rattle.widths.specs.declared.Pending.{Pending}
@@ -23,18 +20,10 @@ use Rattle.scanning.proofs.Searched.{never}
 use Rattle.measure.specs.Measures.{begun_with}
 use Rattle.measure.proofs.seeing.see.Goals as goal
 
--- all of a text
-whole : (s : List ℕ) → part 0 (length s) s ≡ s
-whole s = take_all (length s - 0) s (omega arith)
-
-short : (s : List ℕ) → length (part 0 (length s) s) ≡ length s
-short s = ap length (whole s)
-
 -- what is seen of it does not depend on what was counted before
-same_seen : (t : Scan) (w : Wides) (s : List ℕ) (r : Wides) → r ≡ seen_after (record { state = t.state; held = t.held; sequences = 0; resets = 0 }) w (part 0 (length s) s) → r ≡ seen_after t w s
+same_seen : (t : Scan) (w : Wides) (s : List ℕ) (r : Wides) → r ≡ seen_after (record { state = t.state; held = t.held; sequences = 0; resets = 0 }) w s → r ≡ seen_after t w s
 same_seen t w s r e =
-    e ∙ ap (seen_after (record { state = t.state; held = t.held; sequences = 0; resets = 0 }) w) (whole s)
-    ∙ seen_alike s (record { state = t.state; held = t.held; sequences = 0; resets = 0 }) t w refl refl
+    e ∙ seen_alike s (record { state = t.state; held = t.held; sequences = 0; resets = 0 }) t w refl refl
 
 -- nothing is seen of nothing
 none : (t : Scan) (w : Wides) (s : List ℕ) → length s ≡ 0 → w ≡ seen_after t w s
@@ -54,22 +43,12 @@ returns-then-n-eq0 c = none c.args.t (begun_with c.args.awaited c.args.bits) c.a
 pub walk-requires : goal.walk-requires
 walk-requires c =
     record {
-      q_value = (λ e. absurd (never e), omega (arith, c.requires.fits.1, short c.args.s.now));
+      q_value = (λ e. absurd (never e), omega (arith, c.requires.fits.1));
       fits = c.requires.fits.0;
     }
 
 pub returns-then-c : goal.returns-then-c
 returns-then-c c = same_seen c.args.t (begun_with c.args.awaited c.args.bits) c.args.s.now c.walk.result c.walk.ensures
-
-pub walk-requires-then-not-rests : goal.walk-requires-then-not-rests
-walk-requires-then-not-rests c =
-    record {
-      q_value = (λ e. absurd (never e), omega (arith, c.requires.fits.1, short c.args.s.now));
-      fits = c.requires.fits.0;
-    }
-
-pub returns-then-not-rests : goal.returns-then-not-rests
-returns-then-not-rests c = same_seen c.args.t (begun_with c.args.awaited c.args.bits) c.args.s.now c.walk-then-not-rests.result c.walk-then-not-rests.ensures
 
 pub walk-requires-then-c-n : goal.walk-requires-then-c-n
 walk-requires-then-c-n c =
@@ -77,7 +56,7 @@ walk-requires-then-c-n c =
     let h = rests_outside c.args.t.state c.args.t.held (sym c.rests.ensures ∙ c.if-not-rests.false) in
     let f : Free s = free_by_has s (sym c.requires.chars_value.1 ∙ c.if-c.false) in
     record {
-      q_value = (λ e. (h.0, (h.1, subst Free (sym (whole s)) f)), omega (arith, c.requires.fits.1, short s));
+      q_value = (λ e. (h.0, (h.1, f)), omega (arith, c.requires.fits.1));
       fits = c.requires.fits.0;
     }
 

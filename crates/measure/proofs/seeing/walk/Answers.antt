@@ -1,8 +1,6 @@
--- `measure::seeing::walk` meets its contract. The code's table is that of the ranges. Assumes nothing.
+-- `measure::seeing::walk` meets its contract. Assumes nothing.
 use native.Mathlib.Omega.{arith}
-use mathlib.Core.Path.{refl, sym, ◌∙◌}
-use Rattle.points.specs.Ranges.{ends}
-use Rattle.widths.specs.Wide.{wide}
+use mathlib.Core.Path.{sym, ◌∙◌}
 use Rattle.colour.proofs.Seeing.{seen_free}
 use Rattle.measure.specs.Measures.{begun_with}
 use Rattle.measure.proofs.seeing.walk.Goals as goal
@@ -16,10 +14,8 @@ returns-then-free c =
     c.run_text.ensures ∙ sym (seen_free c.args.s.now h.1.1 _ (begun_with c.args.awaited c.args.bits) h.0 h.1.0)
 
 pub see_bytes-requires : goal.see_bytes-requires
-unfolding ends wide
 see_bytes-requires c =
     record {
-      table_value = refl;
       fits = (c.requires.fits, omega (arith, c.requires.q_value.1));
       s_bound = (omega (arith, c.requires.q_value.1), omega (arith, c.requires.q_value.1));
     }

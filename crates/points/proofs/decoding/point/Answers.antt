@@ -1,24 +1,16 @@
 -- `points::decoding::point` meets its contract. Assumes nothing.
-use Prim.Native.Nat.{ℕ}
-use mathlib.Core.Path.{sym, ap, ◌∙◌}
-use Rattle.points.specs.Decoding.{with_six}
+use native.Mathlib.Omega.{arith}
 use Rattle.points.proofs.Decoded.{point_one, point_two, point_three, point_four}
 use Rattle.points.proofs.decoding.point.Goals as goal
 
-pub returns-then-a-lt192 : goal.returns-then-a-lt192
-returns-then-a-lt192 c = sym (point_one _ _ _ _ c.if-a-lt192.true)
+pub returns-in-0-to-191 : goal.returns-in-0-to-191
+returns-in-0-to-191 c = let e = point_one c.args.a c.args.b c.args.c c.args.d (omega arith) in cc
 
-pub returns-then-a-lt224 : goal.returns-then-a-lt224
-returns-then-a-lt224 c = c.with_six.ensures.0 ∙ sym (point_two _ _ _ _ c.if-a-lt192.false c.if-a-lt224.true)
+pub returns-in-192-to-223 : goal.returns-in-192-to-223
+returns-in-192-to-223 c = let e = point_two c.args.a c.args.b c.args.c c.args.d (omega arith) (omega arith) in cc
 
-pub returns-then-a-lt240 : goal.returns-then-a-lt240
-returns-then-a-lt240 c =
-    c.with_six-then-a-lt240-2.ensures.0
-    ∙ ap (λ (x : ℕ). with_six x c.args.c) c.with_six-then-a-lt240.ensures.0
-    ∙ sym (point_three _ _ _ _ c.if-a-lt224.false c.if-a-lt240.true)
+pub returns-in-224-to-239 : goal.returns-in-224-to-239
+returns-in-224-to-239 c = let e = point_three c.args.a c.args.b c.args.c c.args.d (omega arith) (omega arith) in cc
 
-pub returns : goal.returns
-returns c =
-    c.with_six-4.ensures.0
-    ∙ ap (λ (x : ℕ). with_six x c.args.d) (c.with_six-3.ensures.0 ∙ ap (λ (x : ℕ). with_six x c.args.c) c.with_six-2.ensures.0)
-    ∙ sym (point_four _ _ _ _ c.if-a-lt240.false)
+pub returns-in_default : goal.returns-in_default
+returns-in_default c = let e = point_four c.args.a c.args.b c.args.c c.args.d (omega arith) in cc

@@ -4,14 +4,14 @@ use mathlib.Core.Path.{sym}
 use Rattle.points.proofs.Decoded.{size_one, size_two, size_three, size_four}
 use Rattle.points.proofs.decoding.size_of.Goals as goal
 
-pub returns-then-b-lt192 : goal.returns-then-b-lt192
-returns-then-b-lt192 c = (sym (size_one _ c.if-b-lt192.true), omega arith)
+pub returns-in-0-to-191 : goal.returns-in-0-to-191
+returns-in-0-to-191 c = (sym (size_one _ (omega arith)), omega arith)
 
-pub returns-then-b-lt224 : goal.returns-then-b-lt224
-returns-then-b-lt224 c = (sym (size_two _ c.if-b-lt192.false c.if-b-lt224.true), omega arith)
+pub returns-in-192-to-223 : goal.returns-in-192-to-223
+returns-in-192-to-223 c = (sym (size_two _ (omega arith) (omega arith)), omega arith)
 
-pub returns-then-b-lt240 : goal.returns-then-b-lt240
-returns-then-b-lt240 c = (sym (size_three _ c.if-b-lt224.false c.if-b-lt240.true), omega arith)
+pub returns-in-224-to-239 : goal.returns-in-224-to-239
+returns-in-224-to-239 c = (sym (size_three _ (omega arith) (omega arith)), omega arith)
 
-pub returns : goal.returns
-returns c = (sym (size_four _ c.if-b-lt240.false), omega arith)
+pub returns-in_default : goal.returns-in_default
+returns-in_default c = (sym (size_four _ (omega arith)), omega arith)

@@ -1,8 +1,7 @@
 -- `record::numbers::u16_at` meets its contract. Assumes nothing.
-use borrow.Author.Rules.{rules}
 use native.Mathlib.Omega.{arith}
 use Rattle.record.proofs.Sizes.{u16_bytes}
 use Rattle.record.proofs.numbers.u16_at.Goals as goal
 
 pub returns : goal.returns
-returns c = (omega (arith, u16_bytes c.args.d.now c.args.i), search rules)
+returns c = (omega (arith, u16_bytes c.args.d.now c.args.i), omega arith)

@@ -10,6 +10,7 @@ use Rattle.colour.specs.Formatting.{prefix_in}
 use Rattle.dress.specs.declared.Frame.{Frame}
 use Rattle.rows.specs.Rows.{is_empty}
 use Rattle.rows.proofs.segment.is_empty.Goals as goal
+use Rattle.rows.proofs.segment.is_empty.Goals.{else-w-eq0-via-then-w-eq0+else-w-eq0-2, else-w-eq0-via-else-w-eq0}
 
 -- where its padding is told on either side
 abbrev told : Settings → Frame → Bool → Bool → Bool
@@ -21,10 +22,9 @@ returns-then-w-eq0-2 c =
     ap (λ (n : ℕ). eqb n 0) c.prefix_len.ensures.0
     ∙ sym (λ j. told c.args.s c.args.w (eq-eqb c.args.w.left 0 c.if-w-eq0.true j) (eq-eqb c.args.w.right 0 c.if-w-eq0-2.true j))
 
-pub returns-else-w-eq0-2 : goal.returns-else-w-eq0-2
+pub returns : goal.returns
 unfolding is_empty
-returns-else-w-eq0-2 c = sym (λ j. told c.args.s c.args.w (eq-eqb c.args.w.left 0 c.if-w-eq0.true j) (ne_eqb c.args.w.right 0 c.if-w-eq0-2.false j))
-
-pub returns-else-w-eq0 : goal.returns-else-w-eq0
-unfolding is_empty
-returns-else-w-eq0 c = sym (ap (λ (b : Bool). told c.args.s c.args.w b (eqb c.args.w.right 0)) (ne_eqb c.args.w.left 0 c.if-w-eq0.false))
+returns c = elim c.else-w-eq0.branch [
+  | else-w-eq0-via-then-w-eq0+else-w-eq0-2 w ↦ sym (λ j. told c.args.s c.args.w (eq-eqb c.args.w.left 0 w.if-w-eq0.true j) (ne_eqb c.args.w.right 0 w.if-w-eq0-2.false j))
+  | else-w-eq0-via-else-w-eq0 w ↦ sym (ap (λ (b : Bool). told c.args.s c.args.w b (eqb c.args.w.right 0)) (ne_eqb c.args.w.left 0 w.if-w-eq0.false))
+]

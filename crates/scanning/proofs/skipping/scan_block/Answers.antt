@@ -1,12 +1,10 @@
 -- `scanning::skipping::scan_block` meets its contract: a text without byte 27 moves nothing where no sequence has begun. Assumes nothing.
-use native.Mathlib.Omega.{arith}
-use mathlib.Core.Path.{◌≡◌, sym, ◌∙◌}
+use mathlib.Core.Path.{sym, ◌∙◌}
 use Rattle.colour.proofs.Scanning.{scan_free}
 use Rattle.scanning.proofs.Rests.{rests_outside}
 use Rattle.scanning.proofs.skipping.scan_block.Goals as goal
 
-pub returns : goal.returns
-returns c =
-    let h = rests_outside c.args.t.state c.args.t.held (sym c.rests.ensures ∙ c.if-not-rests.false) in
-    let z : c.escapes.result ≡ 0 = omega arith in
-    sym (scan_free c.args.s.now (c.escapes.ensures z) c.args.t h.0 h.1)
+pub returns-then-escapes-eq0 : goal.returns-then-escapes-eq0
+returns-then-escapes-eq0 c =
+    let h = rests_outside c.args.t.state c.args.t.held (sym c.rests.ensures ∙ c.if-rests.true) in
+    sym (scan_free c.args.s.now (c.escapes.ensures c.if-escapes-eq0.true) c.args.t h.0 h.1)

@@ -1,61 +1,55 @@
 -- `session::walking::put_records` meets its contract. Assumes nothing.
-use native.Mathlib.Omega.{arith}
-use Prim.Native.Nat.{◌+◌, ◌≤◌}
-use mathlib.Core.Path.{refl, sym, ap, ◌∙◌}
-use lib.ListN.{length}
+use Rattle.std.proofs.Common.{◌≡◌, refl, ◌∙◌, sym, ap, subst, ◌+◌, ◌≤◌, length, List, ℕ, arith}
 use Rattle.buffer.specs.Buffer.{put_at}
 use Rattle.buffer.proofs.Writing.{put_nil, put_length}
-use Rattle.segments.specs.Pool.{chain_at}
-use Rattle.session.specs.Walking.{walk_on, line_at, lines_left}
-use Rattle.session.proofs.Places.{lines_all, next_lies, fewer, lines_then, lines_count, lines_end, put_then}
+use Rattle.answer.specs.Rooms.{outcome_by}
+use Rattle.outcomes.specs.Program.{line_room, outcome_line}
+use Rattle.session.specs.Walking.{records_of, Served, lines_by}
+use Rattle.session.proofs.Places.{served_more, lines_more, lines_count, lines_end, put_then}
 use Rattle.session.proofs.walking.put_records.Goals as goal
 
-pub loop-w-init : goal.loop-w-init
-loop-w-init c =
-    let all = lines_all c.args.d.now (chain_at c.args.cells.now c.args.n) c.first_record-w.result c.first_record-w.ensures.0 in
-    (c.first_record-w.ensures.1, (omega (arith, ap length all), (ap (put_at c.args.out.now 0) all, refl)))
-
-pub put_record-at-requires : goal.put_record-at-requires
-put_record-at-requires c =
-    let d = c.args.d.now in
-    let more = c.loop-w-test.true in
-    let m = lines_count d c.loop-w.w more (walk_on d c.loop-w.w) refl (chain_at c.args.cells.now c.args.n) in
+pub loop-body-init : goal.loop-body-init
+loop-body-init c =
+    let r = c.args.reading.now in
+    let e : c.into_iter-body-iterator.result ≡ records_of c.args.sheet.now = c.into_iter-body-iterator.ensures.into_iter_gives ∙ c.records-body-items.ensures.records in
     record {
-      ready = (c.requires.ready, next_lies d c.loop-w.w more c.loop-w.invariant.0);
-      j_in_bounds = omega (arith, m, c.loop-w.invariant.1.0, c.loop-w.invariant.1.1.1, c.requires.n_in_bounds);
+      served = subst (Served r) (sym e) c.requires.served;
+      counted = omega (arith, ap (λ (x : List (List ℕ)). length (lines_by r x)) e);
+      written = ap (λ (x : List (List ℕ)). put_at c.args.out.now 0 (lines_by r x)) e;
+      room = refl;
     }
 
-pub next_record-w-requires : goal.next_record-w-requires
-next_record-w-requires c = (c.loop-w-test.true, c.loop-w.invariant.0)
+pub put_outcome-at-requires : goal.put_outcome-at-requires
+put_outcome-at-requires c =
+    let r = c.args.reading.now in
+    let e = c.in-Some.ensures.steps in
+    record {
+      in_bounds = (served_more r _ _ _ e c.loop-body.invariant.served).0;
+      line_room_in_bounds = omega (arith, lines_count r _ _ _ e, c.loop-body.invariant.counted, c.loop-body.invariant.room, c.requires.n_in_bounds);
+    }
 
-pub loop-w-smaller : goal.loop-w-smaller
-loop-w-smaller c = fewer c.args.d.now c.loop-w.w c.loop-w-test.true c.next_record-w.result c.next_record-w.ensures.0
-
-pub loop-w-preserved : goal.loop-w-preserved
-loop-w-preserved c =
-    let d = c.args.d.now in
-    let s = chain_at c.args.cells.now c.args.n in
-    let more = c.loop-w-test.true in
-    let m = lines_count d c.loop-w.w more c.next_record-w.result c.next_record-w.ensures.0 s in
-    let one = line_at d s c.loop-w.w.i c.loop-w.w.j in
-    let rest = lines_left d s c.next_record-w.result in
-    let f : c.loop-w.at + (length one + length rest) ≤ length c.loop-w.out = omega (arith, m, c.loop-w.invariant.1.0, c.loop-w.invariant.1.1.1, c.requires.n_in_bounds) in (
-      c.next_record-w.ensures.1,
-      (
-        omega (arith, c.loop-w.invariant.1.0, c.put_record-at.ensures.0, m),
-        (
-          put_then c.loop-w.out c.put_record-at.new.out c.loop-w.at c.put_record-at.result one rest c.put_record-at.ensures.1 c.put_record-at.ensures.0 f
-              ∙ ap (put_at c.loop-w.out c.loop-w.at) (sym (lines_then d c.loop-w.w more c.next_record-w.result c.next_record-w.ensures.0 s))
-              ∙ c.loop-w.invariant.1.1.0,
-          ap length c.put_record-at.ensures.1 ∙ put_length c.loop-w.out c.loop-w.at one (omega (arith, f)) ∙ c.loop-w.invariant.1.1.1,
-        ),
-      ),
-    )
+pub loop-body-preserved : goal.loop-body-preserved
+loop-body-preserved c =
+    let r = c.args.reading.now in
+    let e = c.in-Some.ensures.steps in
+    let m = lines_count r _ _ _ e in
+    let one = outcome_line (outcome_by r c.in-Some.body.now line_room) in
+    let rest = lines_by r c.next.new.self in
+    let f : c.loop-body.at + (length one + length rest) ≤ length c.loop-body.out = omega (arith, m, c.loop-body.invariant.counted, c.loop-body.invariant.room, c.requires.n_in_bounds) in
+    record {
+      served = (served_more r _ _ _ e c.loop-body.invariant.served).1;
+      counted = omega (arith, c.loop-body.invariant.counted, c.put_outcome-at.ensures.0, m);
+      written =
+          put_then c.loop-body.out c.put_outcome-at.new.out c.loop-body.at c.put_outcome-at.result one rest c.put_outcome-at.ensures.1 c.put_outcome-at.ensures.0 f
+          ∙ ap (put_at c.loop-body.out c.loop-body.at) (sym (lines_more r _ _ _ e))
+          ∙ c.loop-body.invariant.written;
+      room = ap length c.put_outcome-at.ensures.1 ∙ put_length c.loop-body.out c.loop-body.at one (omega (arith, f)) ∙ c.loop-body.invariant.room;
+    }
 
 pub shape_of-out : goal.shape_of-out
-shape_of-out c = c.loop-w.invariant.1.1.1
+shape_of-out c = c.loop-body.invariant.room
 
 pub returns : goal.returns
 returns c =
-    let none = lines_end c.args.d.now (chain_at c.args.cells.now c.args.n) c.loop-w.w (omega (arith, c.loop-w-test.false)) in
-    sym (put_nil c.loop-w.out c.loop-w.at) ∙ ap (put_at c.loop-w.out c.loop-w.at) (sym none) ∙ c.loop-w.invariant.1.1.0
+    let none = lines_end c.args.reading.now _ c.in-None.ensures.steps.0 in
+    sym (put_nil c.loop-body.out c.loop-body.at) ∙ ap (put_at c.loop-body.out c.loop-body.at) (sym none) ∙ c.loop-body.invariant.written

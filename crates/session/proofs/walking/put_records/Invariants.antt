@@ -1,14 +1,13 @@
--- `session::walking::put_records` meets its contract. Assumes nothing.
-use Prim.Native.Nat.{◌+◌}
-use mathlib.Core.Path.{◌≡◌}
-use lib.ListN.{length}
+-- `session::walking::put_records` meets its contract. The loop's invariant: the lines of the records that are left are still to be written. Assumes nothing.
+use Rattle.std.proofs.Common.{◌≡◌, ◌+◌, length}
 use Rattle.buffer.specs.Buffer.{put_at}
-use Rattle.segments.specs.Pool.{chain_at}
-use Rattle.session.specs.Walking.{Standing, lines_left, all_lines}
+use Rattle.session.specs.Walking.{records_of, Served, lines_by}
 use Rattle.session.proofs.walking.put_records.Given as goal
 
-abbrev pub invariant-loop-w : goal.invariant-loop-w
-invariant-loop-w l = Standing l.d l.w × ((l.at + length (lines_left l.d (chain_at l.cells l.n) l.w) ≡ length (all_lines l.d (chain_at l.cells l.n))) × ((put_at l.out l.at (lines_left l.d (chain_at l.cells l.n) l.w) ≡ put_at l.initial.out 0 (all_lines l.d (chain_at l.cells l.n))) × (length l.out ≡ length l.initial.out)))
-
-abbrev pub decreases-loop-w : goal.decreases-loop-w
-decreases-loop-w l = l.w.left
+abbrev pub invariant-loop-body : goal.invariant-loop-body
+invariant-loop-body l = record {
+  served : Served l.reading l.body-iterator;
+  counted : l.at + length (lines_by l.reading l.body-iterator) ≡ length (lines_by l.reading (records_of l.sheet));
+  written : put_at l.out l.at (lines_by l.reading l.body-iterator) ≡ put_at l.initial.out 0 (lines_by l.reading (records_of l.sheet));
+  room : length l.out ≡ length l.initial.out;
+}

@@ -12,7 +12,7 @@ pub loop-i-init : goal.loop-i-init
 loop-i-init c = (c.requires.1, c.requires.2, c.requires.3)
 
 pub is_sound-requires : goal.is_sound-requires
-is_sound-requires c = (omega (arith, c.least-at.ensures), omega (arith, c.least-at.ensures))
+is_sound-requires c = (omega (arith, c.min-at.ensures), omega (arith, c.min-at.ensures))
 
 pub returns-then-not-is_sound : goal.returns-then-not-is_sound
 returns-then-not-is_sound c = sym (c.is_sound.ensures.1 (c.if-not-is_sound.true))
@@ -20,12 +20,12 @@ returns-then-not-is_sound c = sym (c.is_sound.ensures.1 (c.if-not-is_sound.true)
 pub loop-i-preserved : goal.loop-i-preserved
 loop-i-preserved c =
     let s = c.args.s.now in
-    let at = c.least-at.result in
+    let at = c.min-at.result in
     let i = c.loop-i.i in
     let sound = c.is_sound.ensures.0 (c.if-not-is_sound.false) in (
       omega arith,
-      omega (arith, c.least-at.ensures),
-      sound_through s i (at + 32) ((at + 32) - i) (omega (arith, c.least-at.ensures)) (λ k f. sound k (omega (arith, c.least-at.ensures))) c.loop-i.invariant.2,
+      omega (arith, c.min-at.ensures),
+      sound_through s i (at + 32) ((at + 32) - i) (omega (arith, c.min-at.ensures)) (λ k f. sound k (omega (arith, c.min-at.ensures))) c.loop-i.invariant.2,
     )
 
 pub returns : goal.returns

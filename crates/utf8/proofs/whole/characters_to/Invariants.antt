@@ -8,7 +8,7 @@ use Rattle.utf8.specs.Windows.{reached}
 use Rattle.utf8.proofs.whole.characters_to.Given as goal
 
 abbrev pub invariant-loop-i : goal.invariant-loop-i
-invariant-loop-i l = (l.from ≤ l.i) × (l.i ≤ length l.s) × (reached l.s l.i ≡ awaited [])
+invariant-loop-i l = (l.i ≤ length l.s) × (reached l.s l.i ≡ awaited [])
 
 abbrev pub decreases-loop-i : goal.decreases-loop-i
 decreases-loop-i l = length l.s - l.i

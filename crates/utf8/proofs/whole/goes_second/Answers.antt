@@ -1,46 +1,39 @@
--- `utf8::whole::goes_second` meets its contract: a line of the table for each first byte. Assumes nothing.
-use mathlib.Core.Path.{sym, ◌∙◌}
-use native.Mathlib.Omega.{arith}
-use borrow.Author.Tests.{ltb-true, ltb-false, leb-true, leb-false}
+-- `utf8::whole::goes_second` meets its contract. Assumes nothing.
+use mathlib.Core.Path.{sym, ◌∙◌, subst}
+use Prim.Native.Nat.{ℕ, ◌<◌, ◌≤◌}
+use borrow.Author.Tests.{ne_eqb, leb-true, leb-false}
 use Rattle.utf8.proofs.Judging.{going}
-use Rattle.utf8.proofs.Leading.{leads_e0, leads_ed, leads_f0, leads_f4}
-use Rattle.utf8.proofs.Wholes.{second_none, second_plain, second_lives, second_below, second_above, one_or_none, not_so}
+use Rattle.utf8.proofs.Wholes.{second_none, second_lives, second_below, second_above, none_or_one, not_so}
 use Rattle.utf8.proofs.whole.goes_second.Goals as goal
+use Rattle.utf8.proofs.whole.goes_second.Goals.{then-goes_on-eq1, else-goes_on-eq1}
 
-pub returns-then-goes_on-eq0 : goal.returns-then-goes_on-eq0
-returns-then-goes_on-eq0 c = (λ t. absurd (not_so t), λ t. second_none c.args.a c.args.b c.requires.0 c.requires.1 (sym c.goes_on.ensures ∙ c.if-goes_on-eq0.true))
+pub returns-then-least_after-b : goal.returns-then-least_after-b
+returns-then-least_after-b c =
+    let a = c.args.a in
+    let b = c.args.b in
+    let r = c.requires in
+    let t = c.if-least_after-b.true in
+    elim c.if-goes_on-eq1.branch [
+      | then-goes_on-eq1 w ↦
+          let g = going b (sym c.goes_on.ensures ∙ w.if-goes_on-eq1.true) in
+          let l = subst (λ (n : ℕ). n ≤ b) w.least_after.ensures (leb-true w.least_after.result b (sym w.value-is ∙ t)) in (
+            λ u. second_lives a b r.0 r.1 g.0 g.1 l (subst (λ (n : ℕ). b ≤ n) c.most_after.ensures (leb-true b c.most_after.result u)),
+            λ u. second_above a b r.0 r.1 (subst (λ (n : ℕ). n < b) c.most_after.ensures (leb-false b c.most_after.result u)),
+          )
+      | else-goes_on-eq1 w ↦ absurd (not_so (sym (w.value-is ∙ ne_eqb c.goes_on.result 1 w.if-goes_on-eq1.false) ∙ t))
+    ]
 
-pub returns-then-a-eq224 : goal.returns-then-a-eq224
-returns-then-a-eq224 c =
-    let w = going c.args.b (one_or_none _ _ c.goes_on.ensures c.if-goes_on-eq0.false) in (
-      λ t. second_lives c.args.a c.args.b 0xA0 0xBF _ (leads_e0 c.args.a c.if-a-eq224.true) (leb-true 0xA0 _ t) w.1,
-      λ t. second_below c.args.a c.args.b 0xA0 0xBF _ (leads_e0 c.args.a c.if-a-eq224.true) (leb-false 0xA0 _ t),
-    )
-
-pub returns-then-a-eq237 : goal.returns-then-a-eq237
-returns-then-a-eq237 c =
-    let w = going c.args.b (one_or_none _ _ c.goes_on.ensures c.if-goes_on-eq0.false) in (
-      λ t. second_lives c.args.a c.args.b 0x80 0x9F _ (leads_ed c.args.a c.if-a-eq237.true) w.0 (omega (arith, ltb-true c.args.b 0xA0 t)),
-      λ t. second_above c.args.a c.args.b 0x80 0x9F _ (leads_ed c.args.a c.if-a-eq237.true) (omega (arith, ltb-false c.args.b 0xA0 t)),
-    )
-
-pub returns-then-a-eq240 : goal.returns-then-a-eq240
-returns-then-a-eq240 c =
-    let w = going c.args.b (one_or_none _ _ c.goes_on.ensures c.if-goes_on-eq0.false) in (
-      λ t. second_lives c.args.a c.args.b 0x90 0xBF _ (leads_f0 c.args.a c.if-a-eq240.true) (leb-true 0x90 _ t) w.1,
-      λ t. second_below c.args.a c.args.b 0x90 0xBF _ (leads_f0 c.args.a c.if-a-eq240.true) (leb-false 0x90 _ t),
-    )
-
-pub returns-then-a-eq244 : goal.returns-then-a-eq244
-returns-then-a-eq244 c =
-    let w = going c.args.b (one_or_none _ _ c.goes_on.ensures c.if-goes_on-eq0.false) in (
-      λ t. second_lives c.args.a c.args.b 0x80 0x8F _ (leads_f4 c.args.a c.if-a-eq244.true) w.0 (omega (arith, ltb-true c.args.b 0x90 t)),
-      λ t. second_above c.args.a c.args.b 0x80 0x8F _ (leads_f4 c.args.a c.if-a-eq244.true) (omega (arith, ltb-false c.args.b 0x90 t)),
-    )
-
-pub returns : goal.returns
-returns c =
-    let w = going c.args.b (one_or_none _ _ c.goes_on.ensures c.if-goes_on-eq0.false) in (
-      λ t. second_plain c.args.a c.args.b c.requires.0 c.requires.1 c.if-a-eq224.false c.if-a-eq237.false c.if-a-eq240.false c.if-a-eq244.false w.0 w.1,
-      λ t. cc,
+pub returns-else-least_after-b : goal.returns-else-least_after-b
+returns-else-least_after-b c =
+    let a = c.args.a in
+    let b = c.args.b in
+    let r = c.requires in
+    let t = c.if-least_after-b.false in (
+      λ u. absurd (not_so (sym t ∙ u)),
+      λ _. elim c.if-goes_on-eq1.branch [
+        | then-goes_on-eq1 w ↦
+            let g = going b (sym c.goes_on.ensures ∙ w.if-goes_on-eq1.true) in
+            second_below a b r.0 r.1 g.0 (subst (λ (n : ℕ). b < n) w.least_after.ensures (leb-false w.least_after.result b (sym w.value-is ∙ t)))
+        | else-goes_on-eq1 w ↦ second_none a b r.0 r.1 (none_or_one b c.goes_on.result c.goes_on.ensures w.if-goes_on-eq1.false)
+      ],
     )

@@ -1,16 +1,17 @@
 -- `widths::counting::leading` meets its contract. Assumes nothing.
-use mathlib.Core.Path.{sym}
+use native.Mathlib.Omega.{arith}
+use mathlib.Core.Path.{sym, ◌∙◌}
 use Rattle.widths.proofs.Running.{leading_one, leading_two, leading_three, leading_four}
 use Rattle.widths.proofs.counting.leading.Goals as goal
 
-pub returns-then-b-lt192 : goal.returns-then-b-lt192
-returns-then-b-lt192 c = sym (leading_one _ c.if-b-lt192.true)
+pub returns-in-0-to-191 : goal.returns-in-0-to-191
+returns-in-0-to-191 c = sym (leading_one _ (omega arith))
 
-pub returns-then-b-lt224 : goal.returns-then-b-lt224
-returns-then-b-lt224 c = sym (leading_two _ c.if-b-lt192.false c.if-b-lt224.true)
+pub returns-in-192-to-223 : goal.returns-in-192-to-223
+returns-in-192-to-223 c = c.from.ensures ∙ sym (leading_two _ (omega arith) (omega arith))
 
-pub returns-then-b-lt240 : goal.returns-then-b-lt240
-returns-then-b-lt240 c = sym (leading_three _ c.if-b-lt224.false c.if-b-lt240.true)
+pub returns-in-224-to-239 : goal.returns-in-224-to-239
+returns-in-224-to-239 c = c.from-in-224-to-239.ensures ∙ sym (leading_three _ (omega arith) (omega arith))
 
-pub returns : goal.returns
-returns c = sym (leading_four _ c.if-b-lt240.false)
+pub returns-in_default : goal.returns-in_default
+returns-in_default c = c.from-in_default.ensures ∙ sym (leading_four _ (omega arith))

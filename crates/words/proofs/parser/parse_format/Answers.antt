@@ -1,29 +1,16 @@
 -- `parse_format` meets its contract. Assumes nothing.
-use mathlib.Core.Path.{◌∙◌}
+use mathlib.Core.Path.{ap, ◌∙◌}
+use Rattle.std.specs.Prelude.{Ok}
+use Rattle.words.specs.Within.{told}
 use Rattle.words.specs.Words.{parameter_at}
-use Rattle.words.proofs.Answers.{format_first, format_stopped, format_other}
+use Rattle.words.proofs.Answers.{told_first, told_other}
 use Rattle.words.proofs.parser.parse_format.Goals as goal
 
-pub returns-in-Fit : goal.returns-in-Fit
-unfolding parameter_at
-returns-in-Fit c =
-    record {
-      result_value = format_first _ _ _ c.parse_name-p.ensures.result_value _ _ c.in-Fit.is;
-      within = c.parse_name-p.ensures.within;
-    }
+pub returns-in-Some-clause-result_value : goal.returns-in-Some-clause-result_value
+unfolding parameter_at told
+returns-in-Some-clause-result_value c = told_first _ _ _ _ c.parse_name.ensures.result_value _ (ap Ok c.in-Some.is)
 
-pub returns-in-Misfit : goal.returns-in-Misfit
+pub returns-in-None-clause-result_value : goal.returns-in-None-clause-result_value
 unfolding parameter_at
-returns-in-Misfit c =
-    record {
-      result_value = c.parse_width_and_alignment.ensures.result_value ∙ format_other _ _ _ c.parse_name-p.ensures.result_value c.in-Misfit.is;
-      within = c.parse_width_and_alignment.ensures.within;
-    }
-
-pub returns-in-Refused : goal.returns-in-Refused
-unfolding parameter_at
-returns-in-Refused c =
-    record {
-      result_value = format_stopped _ _ _ c.parse_name-p.ensures.result_value _ c.in-Refused.is;
-      within = c.parse_name-p.ensures.within;
-    }
+returns-in-None-clause-result_value c =
+    c.parse_width_and_alignment.ensures.result_value ∙ told_other _ _ _ _ c.parse_name.ensures.result_value (ap Ok c.in-None.is)

@@ -1,8 +1,0 @@
--- `pool::back_at` meets its contract. Assumes nothing.
-use mathlib.Core.Path.{ap, ◌∙◌}
-use Rattle.segments.specs.Pool.{link_below, back}
-use Rattle.pool.proofs.back_at.Goals as goal
-
-pub returns : goal.returns
-unfolding back
-returns c = (c.link_below.ensures.0 ∙ ap (link_below _) c.cell_at.ensures, c.link_below.ensures.1)

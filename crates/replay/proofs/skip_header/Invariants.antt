@@ -1,8 +1,0 @@
--- The loop has a bound on its turns. Assumes nothing.
-use Rattle.replay.proofs.skip_header.Given as goal
-
-abbrev pub invariant-loop-left : goal.invariant-loop-left
-invariant-loop-left g l = Unit {0}
-
-abbrev pub decreases-loop-left : goal.decreases-loop-left
-decreases-loop-left g l = l.left
