@@ -15,6 +15,7 @@ use Rattle.refusals.specs.Numbers.{number, value_with}
 use Rattle.words.specs.declared.Color.{Color}
 use Rattle.colour.specs.declared.Settings.{Settings}
 use Rattle.colour.specs.Shown.{text_of, joined}
+use Rattle.segments.specs.declared.Cell.{Cell}
 use Rattle.segments.specs.Segments.{LogSegments}
 use Rattle.template.specs.declared.Edition.{Edition}
 use Rattle.template.specs.Template.{read, refusal, read_by}
@@ -37,8 +38,8 @@ use Rattle.rows.specs.Texts.{segments_text}
 use Rattle.rows.specs.Rows.{Writable}
 use Rattle.answer.specs.Answers.{Outcome, line, refused, in_room, passed, record_outcome, buffer_after, answer_of, packed, by_template, outcome, is_call, call_outcome}
 use Rattle.settings.specs.Bits.{is_known, settings_of, edition_of, form_of}
-use Rattle.answer.specs.declared.Reading.{Reading}
-use Rattle.answer.specs.Rooms.{Accepted}
+use Rattle.answer.specs.Maker.{Maker, IsRead}
+use Rattle.answer.specs.Rooms.{Accepted, segments_of, outcome_by}
 use Rattle.packing.specs.Packing.{answer_in, packed_answer}
 
 -- ---- by the room
@@ -141,21 +142,32 @@ texts_short form l e =
     }
 
 -- what is shown of a record that passed its checks
-module _ (r : Reading) (d : List ℕ) (x : Shown) (h : Accepted r d x.places) (k : Compares d x.places x.spans) where
+module _ (d : List ℕ) (x : Shown) (h : Accepted d x.places) (k : Compares d x.places x.spans) where
   pub lent : Lent d x
   unfolding record_by record_of
   lent = record { places = h.places; short = h.texts.message; compared = k }
 
-  pub writable : Writable r.cells.now r.template.now d x r.count
-  writable = record {
-    readable = record { pool = h.pool; few = h.read.few; lent = lent };
-    sound = h.read.sound;
-    tidy = h.read.tidy;
-    few = omega (arith, h.read.counted, h.read.few);
-    low = h.read.low;
-    template = h.template;
+  pub writable : (t : List ℕ) (cells : List Cell) (n : ℕ) → IsRead t cells n → Writable cells t d x n
+  writable t cells n i = record {
+    readable = record { pool = i.pool; few = i.read.few; lent = lent };
+    sound = i.read.sound;
+    tidy = i.read.tidy;
+    few = omega (arith, i.read.counted, i.read.few);
+    low = i.read.low;
+    template = i.template;
     texts = h.texts;
   }
+
+-- ---- by the record's size
+
+module _ (r : Maker) (d : List ℕ) (room : ℕ) where
+  pub sized : right_size r.form d ≡ true → record_outcome r.form r.settings r.template (segments_of r) (laid_out r.form d) room ≡ outcome_by r d room
+  unfolding outcome_by
+  sized h = rw (h, outcome_by)
+
+  pub missized : right_size r.form d ≡ false → refused Refusal.NotASheet ≡ outcome_by r d room
+  unfolding outcome_by
+  missized h = rw (h, outcome_by)
 
 -- ---- answers and buffers by the checks
 

@@ -17,7 +17,7 @@ use Rattle.fields.specs.Lines.{line_of}
 use Rattle.rows.specs.Texts.{segments_text}
 use Rattle.line.proofs.Bound.{segments_counted}
 use Rattle.leaves.proofs.Wordings.{wording_short, field_short}
-use Rattle.answer.specs.declared.Reading.{Reading}
+use Rattle.answer.specs.Maker.{Maker, IsRead}
 use Rattle.answer.specs.Rooms.{segments_of, line_by, Accepted}
 use Rattle.answer.proofs.Messages.{print_small}
 use Rattle.answer.proofs.Answering.{line_print, line_refused, line_level}
@@ -33,9 +33,9 @@ by_level s t c l e h (Level.Named n k) z = omega (arith, ap length (line_level s
 by_level s t c l e h Level.Refused z = omega (arith, ap length (line_refused s t c l Level.Refused z refl), print_small s (record_of l) (short l e))
 
 -- the line of a record that passed its checks
-pub line_counted : (r : Reading) (d : List ℕ) (p : Places) → Accepted r d p → length (line_by r (laid_by p d)) < 2 ^ 56
-line_counted r d p h =
+pub line_counted : (r : Maker) (d : List ℕ) (p : Places) → IsRead r.template r.cells r.count → Accepted d p → length (line_by r (laid_by p d)) < 2 ^ 56
+line_counted r d p i h =
     let l = laid_by p d in
-    by_level r.settings r.template.now (segments_of r) l h.texts
-    (segments_counted r.settings r.template.now (record_of l) h.template (λ m. omega (arith, wording_short l h.texts m)) (λ m. field_short r.settings l h.texts m) (segments_of r) h.read.low (omega (arith, h.read.counted, h.read.few)))
+    by_level r.settings r.template (segments_of r) l h.texts
+    (segments_counted r.settings r.template (record_of l) i.template (λ m. omega (arith, wording_short l h.texts m)) (λ m. field_short r.settings l h.texts m) (segments_of r) i.read.low (omega (arith, i.read.counted, i.read.few)))
     (level_of l.level) refl

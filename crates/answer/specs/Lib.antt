@@ -1,3 +1,4 @@
 pub mod Answers
+pub mod Maker
 pub mod Rooms
 pub mod Computing

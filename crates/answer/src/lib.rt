@@ -11,7 +11,8 @@ ghost use Rattle.layouts.specs.Runs.{laid_text};
 ghost use Rattle.leaves.specs.Places.{record_by, Lent};
 ghost use Rattle.packing.specs.Packing.{Packable};
 ghost use Rattle.answer.specs.Answers.{answer_of, buffer_after, line_entry};
-ghost use Rattle.answer.specs.Rooms.{Asked, Accepted, line_by, outcome_by};
+ghost use Rattle.answer.specs.Maker.{IsRead, maker_of};
+ghost use Rattle.answer.specs.Rooms.{Accepted, line_by, outcome_by};
 
 use checks::check_record;
 use colour::Settings;
@@ -27,18 +28,28 @@ use record::{Form, Level, Places};
 use refusals::Refusal;
 use segments::{Cell, EMPTY};
 use settings::{edition_of, form_of, is_known, settings_of};
+use std::marker::Model;
 use template::parse;
 
-// What the lines of records are made by: a template, the pool that it was read into as so many segments, the form of the records, and how a line
-// is shown. It is lent as one, since it stays the same for all records of a sheet. It has no invariant (d): it is made at two places, and what is asked of it
-// and of a record is one word, `Asked`.
-#[derive(Clone, Copy)]
+// What the lines of records are made by: the form of the records, how a line is shown, a template, and the pool that it was read into as so many segments. It
+// is lent as one, since it stays the same for all records of a sheet.
+#[derive(Drop)]
 pub struct Reading<'a> {
-    pub form: Form,
-    pub settings: Settings,
-    pub template: &'a [u8],
-    pub cells: &'a [Cell],
-    pub count: usize,
+    form: Form,
+    settings: Settings,
+    template: &'a [u8],
+    cells: &'a [Cell],
+    count: usize,
+}
+
+impl<'a> Model for Reading<'a> {
+    ghost use Rattle.answer.specs.Maker.{Maker, IsRead};
+
+    ghost Value = { Maker };
+
+    ghost view = { λ r. record { form = r.form; settings = r.settings; template = r.template.now; cells = r.cells.now; count = r.count } };
+
+    ghost invariant = { λ r. IsRead r.template.now r.cells.now r.count };
 }
 
 // That a length is told where there is no room is no `Result` (d), here and below: who measures lends none, and asks for the length all the same.
@@ -77,11 +88,27 @@ fn put_message(d: &[u8], shown: &Shown, s: Settings, out: &mut [u8]) -> usize
     }
 }
 
+impl<'a> Reading<'a> {
+    // As the settings byte says, by a template that was read into the pool.
+    pub fn new(settings: u8, template: &'a [u8], cells: &'a [Cell], count: usize) -> Self
+        requires { IsRead template.now cells.now count }
+        ensures { result ≡ maker_of settings template.now cells.now count }
+    {
+        Reading {
+            form: form_of(settings),
+            settings: settings_of(settings),
+            template,
+            cells,
+            count,
+        }
+    }
+}
+
 impl Reading<'_> {
     // The same with the line of any record that passed its checks, as none with a refused level does: a print without level is its message alone.
     // Whether the message is a comparison is looked for once, however often it is shown.
     fn put_line(&self, d: &[u8], places: Places, out: &mut [u8]) -> usize
-        requires { Accepted self.now d.now places }
+        requires { Accepted d.now places }
         ensures { Writes out.old out.new (line_by self.now (laid_by places d.now)) result }
     {
         let shown = Shown {
@@ -104,11 +131,13 @@ impl Reading<'_> {
 
     // The answer for the record d where there is so much room. The line is written where the buffer has room for it: measuring lends none.
     fn answer_record(&self, d: &[u8], room: usize, out: &mut [u8]) -> Answer
-        requires { Asked self.now d.now }
         ensures answer { result ≡ answer_of (outcome_by self.now d.now room) }
         ensures buffer { out.new ≡ buffer_after out.old (outcome_by self.now d.now (length out.old)) }
         ensures packable { Packable result }
     {
+        if !right_size(self.form, d) {
+            return Err(Refusal::NotASheet);
+        }
         let places = places_in(self.form, d);
         check_record(self.form, d, places)?;
         answer_in(room, self.put_line(d, places, out))
@@ -116,9 +145,9 @@ impl Reading<'_> {
 
     // The line of the record d at the front of the lent buffer, or a refusal, and the buffer as it was.
     pub fn record_line(&self, d: &[u8], out: &mut [u8]) -> Answer
-        requires { Asked self.now d.now }
         ensures answer { result ≡ answer_of (outcome_by self.now d.now (length out.old)) }
         ensures buffer { out.new ≡ buffer_after out.old (outcome_by self.now d.now (length out.old)) }
+        ensures packable { Packable result }
     {
         let room = out.len();
         self.answer_record(d, room, out)
@@ -126,7 +155,6 @@ impl Reading<'_> {
 
     // The same answer where there is so much room, and nothing is written.
     pub fn measure_record(&self, d: &[u8], room: usize) -> Answer
-        requires { Asked self.now d.now }
         ensures { result ≡ answer_of (outcome_by self.now d.now room) }
     {
         self.answer_record(d, room, &mut [])
@@ -139,19 +167,10 @@ pub fn line(t: &[u8], settings: u8, d: &[u8], out: &mut [u8]) -> Answer
     ensures buffer { out.new ≡ buffer_after out.old (line_entry t.now settings d.now out.old) }
     ensures packable { Packable result }
 {
-    let form = form_of(settings);
-    if !is_known(settings) || !right_size(form, d) {
+    if !is_known(settings) || !right_size(form_of(settings), d) {
         return Err(Refusal::NotASheet);
     }
     let mut cells = [EMPTY; 64];
     let count = parse(edition_of(settings), t, &mut cells)?;
-    let reading = Reading {
-        form,
-        settings: settings_of(settings),
-        template: t,
-        cells: &cells,
-        count,
-    };
-    let room = out.len();
-    reading.answer_record(d, room, out)
+    Reading::new(settings, t, &cells, count).record_line(d, out)
 }

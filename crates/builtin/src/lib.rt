@@ -25,7 +25,7 @@ const TEXT: [u8; 214] = *b"{L} {s}\
     {[{L}]%bold} {s} {({c:bold} {fff}:{l:1})%dimmed}\
     {t} {[{L}]%bold} {s} {({c:bold} {fff}:{l:1})%dimmed}";
 
-// Where each template begins in it.
+// Where each template begins in it, and below how long each is: two rows and no pairs (d), since the rule of the table is computed by rows.
 const STARTS: [usize; 8] = [0, 7, 18, 46, 78, 94, 114, 162];
 
 // How long each is.

@@ -1,5 +1,5 @@
-// The checks of a record: refusal 14, then 11 and 12 for each text in turn. Bytes and places stay two parameters (d): clauses speak of the record that they
-// are, `laid_by p d`, and some checks look at places alone.
+// The checks of a record: refusal 14, then 11 and 12 for each text in turn. Bytes and places stay two parameters (d): each check reads one text or
+// places alone, and would take a type for both apart at once, while clauses speak of the record that they are either way (`laid_by p d`).
 #![tactic(auto)]
 
 ghost use Rattle.std.specs.Prelude.{◌≡◌, ◌≤◌, ◌||◌, ltb, length};

@@ -22,7 +22,7 @@ pub fn write_head<S: Sink>(d: &[u8], i: usize, e: usize, sink: S, out: &mut [u8]
     write_lines(d, first.next, e, rest, out)
 }
 
-// The lines from place i on, a newline before each. It is no `for`: each line says where the next one begins (d).
+// The lines from place i on, a newline before each. It is no `for` (d): it goes as `last_two` does, whose lines are the same.
 fn write_lines<S: Sink>(d: &[u8], i: usize, e: usize, sink: S, out: &mut [u8]) -> S
     requires i_le_e { (i ≤ e) × (e ≤ length d.now) }
     requires fits { S.fits sink out.old (on_new_lines (lines (part i e d.now))) }

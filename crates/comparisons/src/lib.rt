@@ -1,5 +1,5 @@
 // Comparison reports: whether a message is one, and where its pieces stand. Text and places stay parameters of their own (d): each function looks at another
-// stretch, and hands back only a place.
+// stretch, and the places that they hand back are the message's.
 #![tactic(auto)]
 
 ghost use Rattle.std.specs.Prelude.{◌≡◌, List, [], ◌∷◌, ◌++◌, ◌+◌, ◌-◌, ◌<◌, ◌≤◌, length, get_or};
@@ -91,7 +91,8 @@ fn ended_line(d: &[u8], i: usize, k: usize) -> Lined
     }
 }
 
-// The last two lines of a message. It is no `for`: each line says where the next one begins (d).
+// The last two lines of a message. It is no `for` (d): what is kept of a line is its places, and std's `split` hands out
+// lines without them.
 fn last_two(d: &[u8], from: usize, to: usize) -> Option<LastTwo>
     requires { (from ≤ to) × (to ≤ length d.now) }
     ensures { (by_ending d.now from result ≡ comparison (part from to d.now)) × EndingWithin from to result }

@@ -18,8 +18,7 @@ use Rattle.building.specs.Reading.{Made, make_or, Content}
 use Rattle.building.specs.Told.{Read, last_made, tell, tell_inner, tell_items, tell_item}
 use Rattle.template.specs.Template.{read}
 use Rattle.template.specs.Parsing.{Parsed, tell_parsed, ParsedKeeps}
-use Rattle.answer.specs.declared.Reading.{Reading}
-use Rattle.session.specs.Walking.{tell_opened, OpenedKeeps, Reads}
+use Rattle.session.specs.Walking.{tell_opened, OpenedKeeps}
 use Rattle.settled.specs.Settled.{AnswerSettled}
 use Rattle.settled.proofs.Equal.{same}
 use Rattle.building.proofs as building
@@ -114,31 +113,13 @@ parse_answered _ _ _ _ _ _ p q = told_parsed _ _ _ _ p.1 q.1 (same p.0 q.0)
 
 told_opened : (x y : Parsed) (s : List ℕ) (c d : List Cell) → OpenedKeeps s c x → OpenedKeeps s d y → tell_opened x c ≡ tell_opened y d → x ≡ y
 unfolding tell_opened
-told_opened (Ok m) (Ok n) s c d p q e = ap Ok (read_as m n c d p.keeps.counted q.keeps.counted e)
+told_opened (Ok m) (Ok n) s c d p q e = ap Ok (read_as m n c d p.read.read.counted q.read.read.counted e)
 told_opened (Ok m) (Err u) s c d p q e = cc
 told_opened (Err r) (Ok n) s c d p q e = cc
 told_opened (Err r) (Err u) s c d p q e = cc
 
 open_answered : AnswerSettled 3 session.Sheet.open.Kinds.ps session.Sheet.open.Kinds.r session.Sheet.open.Reads.Post
 open_answered _ _ _ _ _ _ p q = told_opened _ _ _ _ _ p.1 q.1 (same p.0 q.0)
-
--- ---- what is made of references: what stands there, if not where
-
-record Alike (x y : Reading) : Type 0 where
-  form : x.form ≡ y.form
-  settings : x.settings ≡ y.settings
-  template : x.template.now ≡ y.template.now
-  pool : x.cells.now ≡ y.cells.now
-  count : x.count ≡ y.count
-
-reading_alike : (d : List ℕ) (cells : List Cell) (n : ℕ) (x y : Reading) → Reads d cells n x → Reads d cells n y → Alike x y
-reading_alike d cells n x y p q = record {
-  form = same p.form q.form;
-  settings = same p.settings q.settings;
-  template = same p.template q.template;
-  pool = same p.pool q.pool;
-  count = same p.count q.count;
-}
 
 -- ---- a prefix: its length
 

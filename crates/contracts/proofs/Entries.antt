@@ -29,7 +29,10 @@ pack_settled _ _ _ _ _ _ p q = (same p q, refl)
 -- ---- answer
 
 record_line_settled : Settled 4 answer.Reading.record_line.Kinds.ps answer.Reading.record_line.Kinds.r answer.Reading.record_line.Reads.Post
-record_line_settled _ _ _ _ _ _ p q = (same p.0 q.0, past (past (here (same p.1 q.1))))
+record_line_settled _ _ _ _ _ _ p q = (same p.0 q.0, past (past (here (same p.1.0 q.1.0))))
+
+new_settled : Settled 1 answer.Reading.new.Kinds.ps answer.Reading.new.Kinds.r answer.Reading.new.Reads.Post
+new_settled _ _ _ _ _ _ p q = (same p q, refl)
 
 measure_record_settled : Settled 3 answer.Reading.measure_record.Kinds.ps answer.Reading.measure_record.Kinds.r answer.Reading.measure_record.Reads.Post
 measure_record_settled _ _ _ _ _ _ p q = (same p q, refl)
@@ -83,6 +86,12 @@ module _ (T : RattleType) (L : Laws T) (C : IsCopy T) (K : sink.Ghosts T.Denot) 
 
 sheet_in_settled : Settled 1 session.sheet_in.Kinds.ps session.sheet_in.Kinds.r session.sheet_in.Reads.Post
 sheet_in_settled _ _ _ _ _ _ p q = (same p q, refl)
+
+template_at_settled : Settled 2 session.Sheet.template_at.Kinds.ps session.Sheet.template_at.Kinds.r session.Sheet.template_at.Reads.Post
+template_at_settled _ _ _ _ _ _ p q = (same p.0 q.0, refl)
+
+reading_settled : Settled 2 session.Sheet.reading.Kinds.ps session.Sheet.reading.Kinds.r session.Sheet.reading.Reads.Post
+reading_settled _ _ _ _ _ _ p q = (same p q, refl)
 
 records_settled : Settled 2 session.Sheet.records.Kinds.ps session.Sheet.records.Kinds.r session.Sheet.records.Reads.Post
 records_settled _ _ _ _ _ _ p q = (same p.0 q.0, refl)

@@ -80,11 +80,8 @@ group_format_settled _ _ _ _ _ _ p q = (same p q, refl)
 
 -- ---- paths
 
-first_shown_settled : Settled 1 paths.first_shown.Kinds.ps paths.first_shown.Kinds.r paths.first_shown.Reads.Post
-first_shown_settled _ _ _ _ _ _ p q = (same p.2 q.2, refl)
-
-next_component_settled : Settled 1 paths.next_component.Kinds.ps paths.next_component.Kinds.r paths.next_component.Reads.Post
-next_component_settled _ _ _ _ _ _ p q = (same p.2 q.2, refl)
+components_of_settled : Settled 1 paths.components_of.Kinds.ps paths.components_of.Kinds.r paths.components_of.Reads.Post
+components_of_settled _ _ _ _ _ _ p q = (same p q, refl)
 
 -- ---- prefix
 

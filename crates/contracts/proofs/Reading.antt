@@ -101,8 +101,8 @@ letters_end_settled _ _ _ _ _ _ p q = (same p.0 q.0, refl)
 digits_end_settled : Settled 1 runs.digits_end.Kinds.ps runs.digits_end.Kinds.r runs.digits_end.Reads.Post
 digits_end_settled _ _ _ _ _ _ p q = (same p.0 q.0, refl)
 
-width_settled : Settled 1 runs.numbers.width.Kinds.ps runs.numbers.width.Kinds.r runs.numbers.width.Reads.Post
-width_settled _ _ _ _ _ _ p q = (same p q, refl)
+number_up_to_settled : Settled 1 runs.numbers.number_up_to.Kinds.ps runs.numbers.number_up_to.Kinds.r runs.numbers.number_up_to.Reads.Post
+number_up_to_settled _ _ _ _ _ _ p q = (same p q, refl)
 
 -- ---- letters
 

@@ -23,28 +23,21 @@ pub struct Frame {
     pub inserted: usize,
 }
 
-// The text from i up to e becomes the formatted text at `at`, with padding of l bytes before and r bytes after it; the place after
-// it is returned. It takes no `Frame` (d), whose bytes inserted it would not read: the text's place tells them.
-pub fn dress(out: &mut [u8], at: usize, i: usize, e: usize, f: Format, l: usize, r: usize) -> usize
-    requires i_le_e { (i ≤ e) × (at + (length (prefix f.look) + (l + length (reinserted (prefix f.look) (part i e out.old)))) ≡ e) }
-    requires r_in_bounds { e + (r + 4) ≤ length out.old }
-    ensures { (result ≡ e + (r + 4)) × (out.new ≡ put_at out.old at (dressed f l r (part i e out.old))) }
+// The text from i up to e becomes the formatted text at `at`, in the frame w with its padding; the place after it is returned. The bytes inserted that
+// the frame tells need no look: the text's place tells them too.
+pub fn dress(out: &mut [u8], at: usize, i: usize, e: usize, w: Frame) -> usize
+    requires i_le_e { (i ≤ e) × (at + (length (prefix w.format.look) + (w.left + length (reinserted (prefix w.format.look) (part i e out.old)))) ≡ e) }
+    requires r_in_bounds { e + (w.right + 4) ≤ length out.old }
+    ensures { (result ≡ e + (w.right + 4)) × (out.new ≡ put_at out.old at (dressed w.format w.left w.right (part i e out.old))) }
 {
     let mut bytes = [0; 16];
-    let n = put_prefix(f.look, &mut bytes);
-    lay(out, at, i, e, &bytes[..n], pad_byte(f.padding), l, r)
-}
-
-// The same for a prefix p and a padding byte z.
-fn lay(out: &mut [u8], at: usize, i: usize, e: usize, p: &[u8], z: u8, l: usize, r: usize) -> usize
-    requires i_le_e { (i ≤ e) × (at + (length p.now + (l + length (reinserted p.now (part i e out.old)))) ≡ e) }
-    requires r_in_bounds { e + (r + 4) ≤ length out.old }
-    ensures { (result ≡ e + (r + 4)) × (out.new ≡ put_at out.old at (around p.now l (reinserted p.now (part i e out.old)) r z)) }
-{
+    let n = put_prefix(w.format.look, &mut bytes);
+    let p = &bytes[..n];
+    let z = pad_byte(w.format.padding);
     let a = put(out, at, p);
-    let o = fill(out, a, l, z);
+    let o = fill(out, a, w.left, z);
     spread(out, o, i, e, p);
-    let m = fill(out, e, r, z);
+    let m = fill(out, e, w.right, z);
     put(out, m, &RESET)
 }
 
@@ -54,7 +47,9 @@ pub fn dress_bare(out: &mut [u8], at: usize, i: usize, e: usize, p: &[u8]) -> us
     requires e_in_bounds { e + (0 + 4) ≤ length out.old }
     ensures { (result ≡ e + (0 + 4)) × (out.new ≡ put_at out.old at (around p.now 0 (reinserted p.now (part i e out.old)) 0 0)) }
 {
-    lay(out, at, i, e, p, 0, 0, 0)
+    let o = put(out, at, p);
+    spread(out, o, i, e, p);
+    put(out, e, &RESET)
 }
 
 // The text from i up to e goes to o, with p inserted after each reset, so that it ends at e. Where it needn't move there is nothing to insert: few

@@ -1,6 +1,7 @@
 // Where words and texts end, if they fit: what they are, the reading before has stored. They are asked of the functions that the reading itself calls and the
 // compiler leaves alone. What it makes a part of the reading must not be called from here, too: it would leave that alone as well, and reading would be slower.
-// (A template and two places stay three parameters, as in every reader below: a part of it as one slice would move the places that are told, and be no plainer: d.)
+// (A template and two places stay three parameters, as in every reader below: a part of it as one slice would move the places that are told, and be no plainer: d;
+// and `even` is a `bool`, as in reader: a.)
 #![tactic(auto)]
 
 ghost use Rattle.std.specs.Prelude.{◌≡◌, ℕ, ◌+◌, ◌-◌, ◌≤◌, length};

@@ -1,49 +1,33 @@
--- Laws of the text of components, one after the other: said once, for measuring, counting and writing. Assumes nothing.
-use mathlib.Core.Path.{◌≡◌, ap, sym, ◌∙◌}
-use mathlib.Core.List.{List, [], ◌++◌}
-use Prim.Native.Nat.{ℕ, ◌+◌, ◌-◌, ◌<◌, ◌≤◌}
-use native.Mathlib.Omega.{arith}
-use lib.ListN.{length, length-append}
-use Rattle.buffer.specs.Bytes.{bytes, part}
-use Rattle.buffer.proofs.Parts.{part_length}
+-- Laws of the text of components, one after the other. Assumes nothing.
+use Rattle.std.proofs.Common.{◌≡◌, ap, sym, ◌∙◌, ℕ, suc, List, [], ◌∷◌, ◌++◌, drop, Bor}
+use lib.Seq.{drop-nil}
 use Rattle.std.specs.Prelude.{Option, Some, None}
-use Rattle.paths.specs.Paths.{components, last_of, slashed}
-use Rattle.paths.specs.Remaining.{remaining, components_from}
+use Rattle.std.specs.Iterator.{YieldsFirstRef}
+use Rattle.buffer.specs.Bytes.{bytes}
+use Rattle.paths.specs.Paths.{components, last_of, slashed, joined_by_slash, file_name}
 use Rattle.fields.specs.Texts.{no_file, or_placeholder}
-use Rattle.paths.proofs.Pieces.{name_shown, name_missing, slashed_next, slashed_done}
-use Rattle.fields.specs.Wordings.{name_text}
 
--- ---- what remains
+-- one component less to pass over
+pub skip_one : (k : ℕ) (l t : List (List ℕ)) (r : Option (Bor (List ℕ))) → YieldsFirstRef (λ (x : List (List ℕ)). x) l r t → drop k t ≡ drop (suc k) l
+skip_one k l t None h = ap (drop k) h.1 ∙ drop-nil k ∙ ap (drop (suc k)) (sym h.0)
+skip_one k l t (Some x) h = ap (drop (suc k)) (sym h)
 
-module _ (d : List ℕ) (k e : ℕ) (c : Option (ℕ × ℕ)) (p : remaining k e d ≡ components_from c e d) where
-  pub slashed_at : (i j : ℕ) → c ≡ Some (i, j) → slashed (remaining k e d) ≡ bytes "/" ++ (part i j d ++ slashed (remaining j e d))
-  slashed_at i j q = slashed_next d k e i j (p ∙ ap (λ (x : Option (ℕ × ℕ)). components_from x e d) q)
+-- the first component that is shown has no slash before it
+module _ (n : ℕ) (path : List ℕ) where
+  pub name_shown : (x : List ℕ) (t : List (List ℕ)) → last_of n (components path) ≡ x ∷ t → or_placeholder no_file (file_name n path) ≡ x ++ slashed t
+  unfolding or_placeholder file_name joined_by_slash
+  name_shown x t e = ap (λ (l : List (List ℕ)). or_placeholder no_file (joined_by_slash l)) e
 
-  pub slashed_nothing : c ≡ None → slashed (remaining k e d) ≡ []
-  slashed_nothing q = slashed_done d k e (p ∙ ap (λ (x : Option (ℕ × ℕ)). components_from x e d) q)
+  pub name_missing : last_of n (components path) ≡ [] → or_placeholder no_file (file_name n path) ≡ no_file
+  unfolding or_placeholder file_name joined_by_slash
+  name_missing e = ap (λ (l : List (List ℕ)). or_placeholder no_file (joined_by_slash l)) e
 
-  -- there is room for a slash and the component
-  pub slashed_room : (i j : ℕ) → c ≡ Some (i, j) → 1 + length (part i j d) ≤ length (slashed (remaining k e d))
-  slashed_room i j q = omega (arith, ap length (slashed_at i j q), length-append (part i j d) (slashed (remaining j e d)))
+-- each of the others has one
+module _ (l : List (List ℕ)) where
+  pub slashed_more : (x : List ℕ) (t : List (List ℕ)) → l ≡ x ∷ t → slashed l ≡ bytes "/" ++ (x ++ slashed t)
+  unfolding slashed
+  slashed_more x t e = ap slashed e
 
-  pub slashed_length : (i j : ℕ) → c ≡ Some (i, j) → i ≤ j → j ≤ length d
-      → length (slashed (remaining k e d)) ≡ 1 + (j - i) + length (slashed (remaining j e d))
-  slashed_length i j q h g = omega (arith, ap length (slashed_at i j q), length-append (part i j d) (slashed (remaining j e d)), part_length d i j h g)
-
--- ---- the whole name
-
-module _ (d : List ℕ) (f e n : ℕ) (c : Option (ℕ × ℕ)) (p : components_from c e d ≡ last_of n (components (part f e d))) where
-  -- the first component has no slash before it
-  pub name_at : (i j : ℕ) → c ≡ Some (i, j) → name_text f e n d ≡ part i j d ++ slashed (remaining j e d)
-  unfolding or_placeholder
-  name_at i j q = ap (or_placeholder no_file) (name_shown d f e n i j (ap (λ (x : Option (ℕ × ℕ)). components_from x e d) (sym q) ∙ p))
-
-  pub name_nothing : c ≡ None → name_text f e n d ≡ no_file
-  unfolding or_placeholder
-  name_nothing q = ap (or_placeholder no_file) (name_missing d f e n (ap (λ (x : Option (ℕ × ℕ)). components_from x e d) (sym q) ∙ p))
-
-  pub name_room : (i j : ℕ) → c ≡ Some (i, j) → length (part i j d) ≤ length (name_text f e n d)
-  name_room i j q = omega (arith, ap length (name_at i j q), length-append (part i j d) (slashed (remaining j e d)))
-
-  pub name_length : (i j : ℕ) → c ≡ Some (i, j) → i ≤ j → j ≤ length d → length (name_text f e n d) ≡ j - i + length (slashed (remaining j e d))
-  name_length i j q h g = omega (arith, ap length (name_at i j q), length-append (part i j d) (slashed (remaining j e d)), part_length d i j h g)
+  pub slashed_done : l ≡ [] → slashed l ≡ []
+  unfolding slashed
+  slashed_done e = ap slashed e

@@ -31,7 +31,8 @@ pub struct Run {
     pub text: Text,
 }
 
-// The prefixes of the looks, one after the other: bold, red, green, bold red, bold green.
+// The prefixes of the looks, one after the other: bold, red, green, bold red, bold green. By places in them, and dressed by `dress_bare` (b): a second caller of
+// `dress` is no longer made a part of the first, and lines without a report took up to 1.10 times as long (docs/DECISIONS.md).
 const PREFIXES: [u8; 28] = *b"\x1b[1m\x1b[31m\x1b[32m\x1b[1;31m\x1b[1;32m";
 
 // How many runs a layout has.
@@ -94,7 +95,7 @@ fn bold_green(x: Text) -> Run
 }
 
 // The run k of the layout of a message that begins at `from`: the head, the title, and the two values below each other. It is asked for by its number and is
-// no array (d): seventeen runs would stand on the stack.
+// no array (a): seventeen runs would stand on the stack, whose size is fixed.
 fn run_at(from: usize, c: Spans, k: usize) -> Run
     requires { k < 17 }
     ensures { result ≡ get_or (runs_of from c) k no_run }
@@ -173,7 +174,7 @@ fn put_run(d: &[u8], s: Settings, r: Run, out: &mut [u8], at: usize) -> usize
 }
 
 // Measures a layout on top of `a`. This and the two below stay apart as `add_run` and `put_run` do (d);
-// message, place and comparison stay apart, since a record has them so (d).
+// message, place and comparison stay three (d): these functions alone take them, and hand each on as it is.
 pub fn add_layout(d: &[u8], from: usize, c: Spans, s: Settings, a: Measure) -> Measure
     requires spans_within { SpansWithin from (length d.now) (Some c) }
     requires small { (Small a) × (a.len + length (laid_text s d.now from c) < 2 ^ 57) }

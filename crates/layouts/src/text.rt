@@ -5,8 +5,9 @@ ghost use Rattle.layouts.specs.Texts.{text_bytes, TextWithin};
 use comparisons::head::write_head;
 use measure::sink::Sink;
 
-// Where one stands: the head of the message, a part of the message, or a part of what every layout has. The last is told by its places too, and is no
-// slice: contracts compare runs, and a slice is compared by its address as well (c).
+// Where one stands: the head of the message, a part of the message, or a part of what every layout has. The last is told by its places too. It is no
+// slice (c): contracts compare runs, and a slice is compared by its address as well; and no enum of its own (a): a `match` that answers slices becomes a table
+// of addresses, which would be data in the archive.
 #[derive(Clone, Copy)]
 pub enum Text {
     Head(usize, usize),

@@ -25,8 +25,8 @@ pub fn is_unmarked(t: &[u8]) -> bool
     is_clear(t, last)
 }
 
-// Whether no byte before the last leaves a doubt. The last block overlaps the one before it, so that it is whole, too; a `for` would meet a
-// shorter one (d).
+// Whether no byte before the last leaves a doubt. The last block overlaps the one before it, so that it is whole, too. A `for` by steps would
+// leave that one to a call of its own behind the loop (d).
 fn is_clear(t: &[u8], last: usize) -> bool
     requires { (8 ≤ last) × (last < length t.now) }
     ensures { (result ≡ true → Clear t.now 0 last) × (result ≡ false → 0 < doubt_in t.now) }

@@ -5,7 +5,7 @@ ghost use Rattle.letters.specs.Marked.{marked};
 
 use super::marking::{left_in, letter_in, seen_as};
 
-// Where each range of letters begins, and the code point after it, by turns. `oracle/letters` makes it.
+// Where each range of letters begins, and the code point after it, by turns, as `points::search` takes it (a). `oracle/letters` makes it.
 pub(crate) static ENDS: [u32; 1522] = [
     0x41, 0x5B, 0x61, 0x7B, 0xAA, 0xAB, 0xB5, 0xB6, 0xBA, 0xBB, 0xC0, 0xD7, 0xD8, 0xF7, 0xF8,
     0x2C2, 0x2C6, 0x2D2, 0x2E0, 0x2E5, 0x2EC, 0x2ED, 0x2EE, 0x2EF, 0x345, 0x346, 0x363, 0x375,

@@ -22,7 +22,8 @@ use rows::{Material, Row};
 use segments::{Cell, Kind};
 
 // Writes the line of a record, by the n segments of the pool that were read from the template t, and returns its length. Where the buffer
-// is too short nothing is written, and the length that it would need is returned. Here what travels together is put together, as `Material` (d).
+// is too short nothing is written, and the length that it would need is returned. What travels together is put together here, as `Material`, and not by who calls (a):
+// docs/CONTRACTS.md has the function as it is (`write_line_settled`).
 pub fn write_line(
     cells: &[Cell],
     n: usize,
@@ -135,5 +136,5 @@ fn put_seg(
     }
     let b = at + (p + (w.left + w.inserted));
     let e = put_raw(m, table, depth, i, out, b);
-    dress(out, at, b, e, f, w.left, w.right)
+    dress(out, at, b, e, w)
 }

@@ -1,5 +1,6 @@
 // Words and texts: what is read without going into a brace.
-// The text, the place and the end stay parameters of their own (d): each reader begins at another place, and hands back only where it ends.
+// The text, the place and the end stay parameters of their own (d): each reader begins at another place, and hands back only where it ends. `even` is a `bool`, as in
+// reader (a).
 #![tactic(auto, unfolding(words::specs::Within::told, words::specs::Within::Fitting))]
 
 ghost use Rattle.std.specs.Prelude.{◌≡◌, List, true, false, ℕ, ◌+◌, ◌-◌, ◌*◌, ◌≤◌, length, take};
@@ -79,7 +80,8 @@ pub fn parse_parameter(t: &[u8], from: usize, to: usize, p: Parts) -> Read<Parts
     Ok(Some((j, with_parameter(p, a))))
 }
 
-// The words that follow one another, split by colons, as long as they fit. It is no `for`: each word says where the next one may begin (d).
+// The words that follow one another, split by colons, as long as they fit. It is no `for` (d): each word is read by what those before
+// it said, may refuse, and says where the next one may begin.
 pub fn further_words(t: &[u8], from: usize, to: usize, p: Parts) -> Read<Parts>
     requires { (from ≤ to) × (to ≤ length t.now) × Narrow p.format.width }
     ensures by_index { (n : ℕ) → to - from ≤ n → tell_parts result ≡ further (byte ":") t.now to (word_at t.now to) n from p }

@@ -23,7 +23,7 @@ pub fn padding_in(s: Settings, f: Format, x: Measure, n: usize) -> usize
     due.saturating_sub(against_padding(s.straight, n))
 }
 
-// How many of n bytes inserted count against the padding: all in the crate's mode, none in straight mode. The mode is a `bool` (a), a bit of the settings byte.
+// How many of n bytes inserted count against the padding: all in the crate's mode, none in straight mode. The mode is a `bool` (d): a yes or no, as `Settings` has it.
 fn against_padding(straight: bool, n: usize) -> usize
     ensures { result ≡ cond straight 0 n }
 {

@@ -2,17 +2,18 @@
 #![tactic(auto)]
 
 ghost use Rattle.std.specs.Prelude.{◌≡◌, ◌<◌, ◌≤◌, length};
-ghost use Rattle.segments.specs.Segments.{is_wanted, named_in, named_among};
+ghost use Rattle.naming.specs.Wanted.{is_wanted};
+ghost use Rattle.segments.specs.Segments.{named_in, named_among};
 ghost use Rattle.segments.specs.Pool.{segment_at, chain_at};
 
 use pool::{back_at, kind_at, last_at};
-use segments::{Cell, Kind, Wanted};
+use segments::{Cell, Kind};
 use words::LogMetadata;
 
-// Whether the members back from the link `l` name it. Links lead down, so that the search ends in any pool. The lent memory holds no list of members to go
-// over, so the links are followed by hand (a).
+// Whether the members back from the link `l` name it. Links lead down, so that the search ends in any pool. It goes from link to link by a `while` (d), as
+// `join_of` of rows does.
 #[cycle(named)]
-pub fn names(cells: &[Cell], wanted: Wanted, l: usize) -> bool
+pub fn names(cells: &[Cell], wanted: LogMetadata, l: usize) -> bool
     requires { (64 ≤ length cells.now) × (l ≤ 64) }
     ensures { result ≡ named_among (is_wanted wanted) (chain_at cells.now l) }
 {
@@ -28,22 +29,13 @@ pub fn names(cells: &[Cell], wanted: Wanted, l: usize) -> bool
 
 // Each kind of segment has an answer of its own (d).
 #[cycle(named)]
-fn named_at(cells: &[Cell], wanted: Wanted, i: usize) -> bool
+fn named_at(cells: &[Cell], wanted: LogMetadata, i: usize) -> bool
     requires { (64 ≤ length cells.now) × (i < 64) }
     ensures { result ≡ named_in (is_wanted wanted) (segment_at cells.now i) }
 {
     match kind_at(cells, i) {
         Kind::Text(..) => false,
         Kind::Group(_) => names(cells, wanted, last_at(cells, i)),
-        Kind::Specifier(m) => is_wanted(wanted, m),
-    }
-}
-
-fn is_wanted(wanted: Wanted, m: LogMetadata) -> bool
-    ensures { result ≡ is_wanted wanted m }
-{
-    match wanted {
-        Wanted::Message => m == LogMetadata::Log,
-        Wanted::Time => m == LogMetadata::Timestamp,
+        Kind::Specifier(m) => m == wanted,
     }
 }

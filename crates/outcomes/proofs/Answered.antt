@@ -18,12 +18,14 @@ use Rattle.refusals.specs.declared.Refusal.{Refusal}
 use Rattle.colour.specs.declared.Settings.{Settings}
 use Rattle.segments.specs.Segments.{LogSegments}
 use Rattle.record.specs.declared.Form.{Form}
-use Rattle.record.specs.Layout.{Laid}
+use Rattle.record.specs.Layout.{Laid, right_size, laid_out}
 use Rattle.checks.specs.Checks.{record_refusal}
 use Rattle.record.specs.Contents.{record_of}
 use Rattle.fields.specs.Lines.{line_of}
 use Rattle.std.specs.Prelude.{Ok, Err}
 use Rattle.answer.specs.Answers.{Outcome, line, refused, in_room, passed, record_outcome, answer_of, buffer_after}
+use Rattle.answer.specs.Maker.{Maker}
+use Rattle.answer.specs.Rooms.{segments_of, outcome_by}
 use Rattle.outcomes.proofs.Refusals.{refusal_most}
 use Rattle.outcomes.specs.Program.{line_room, outcome_line, refusal_line, session_text, fitting, session_outcome}
 
@@ -91,13 +93,31 @@ module _ (form : Form) (settings : Settings) (t : List ℕ) (s : LogSegments) (d
       (w.0, λ other h. subst (λ (y : List ℕ). in_room other y ≡ line x) (sym w.1) (held other x h))
   by_check (some r) e = let z : ◌≡◌ {A = ℕ} 0 1 = cc in absurd (omega (arith, z))
 
-  pub line_fits : record_outcome form settings t s d room ≡ line x → length x ≤ room
+  record_fits : record_outcome form settings t s d room ≡ line x → length x ≤ room
   unfolding record_outcome
-  line_fits e = (by_check (record_refusal form d) e).0
+  record_fits e = (by_check (record_refusal form d) e).0
 
-  pub line_again : (other : ℕ) → record_outcome form settings t s d room ≡ line x → length x ≤ other → record_outcome form settings t s d other ≡ line x
+  record_again : (other : ℕ) → record_outcome form settings t s d room ≡ line x → length x ≤ other → record_outcome form settings t s d other ≡ line x
   unfolding record_outcome
-  line_again other e h = (by_check (record_refusal form d) e).1 other h
+  record_again other e h = (by_check (record_refusal form d) e).1 other h
+
+module _ (r : Maker) (d : List ℕ) (room : ℕ) (x : List ℕ) where
+  by_size : (b : Bool) → elim b [ true ↦ record_outcome r.form r.settings r.template (segments_of r) (laid_out r.form d) room | false ↦ refused Refusal.NotASheet ] ≡ line x
+      → (length x ≤ room)
+      × ((other : ℕ) → length x ≤ other → elim b [ true ↦ record_outcome r.form r.settings r.template (segments_of r) (laid_out r.form d) other | false ↦ refused Refusal.NotASheet ] ≡ line x)
+  by_size true e = (
+    record_fits r.form r.settings r.template (segments_of r) (laid_out r.form d) room x e,
+    λ other h. record_again r.form r.settings r.template (segments_of r) (laid_out r.form d) room x other e h,
+  )
+  by_size false e = let z : ◌≡◌ {A = ℕ} 0 1 = cc in absurd (omega (arith, z))
+
+  pub line_fits : outcome_by r d room ≡ line x → length x ≤ room
+  unfolding outcome_by
+  line_fits e = (by_size (right_size r.form d) e).0
+
+  pub line_again : (other : ℕ) → outcome_by r d room ≡ line x → length x ≤ other → outcome_by r d other ≡ line x
+  unfolding outcome_by
+  line_again other e h = (by_size (right_size r.form d) e).1 other h
 
 -- ---- a record that was measured
 
@@ -114,31 +134,31 @@ part_written d x at h =
     ∙ ap (λ (l : List ℕ). take at d ++ l) (append-nil (x ++ drop (length x) p))
     ∙ ap (λ (l : List ℕ). take at d ++ (x ++ l)) (drop-drop (length x) at d)
 
-module _ (form : Form) (settings : Settings) (t : List ℕ) (s : LogSegments) (d : Laid) (k : ℕ) (e : Ok k ≡ answer_of (record_outcome form settings t s d line_room)) where
+module _ (r : Maker) (d : List ℕ) (k : ℕ) (e : Ok k ≡ answer_of (outcome_by r d line_room)) where
   abbrev its : Outcome
-  its = record_outcome form settings t s d line_room
+  its = outcome_by r d line_room
 
-  abbrev told : Lined (record_outcome form settings t s d line_room) k
-  told = lined (record_outcome form settings t s d line_room) k e
+  abbrev told : Lined (outcome_by r d line_room) k
+  told = lined (outcome_by r d line_room) k e
 
-  pub measured : (length (outcome_line (record_outcome form settings t s d line_room)) ≡ k + 1) × (k ≤ 65536)
+  pub measured : (length (outcome_line (outcome_by r d line_room)) ≡ k + 1) × (k ≤ 65536)
   measured =
-      let f = line_fits form settings t s d line_room told.text told.is in
+      let f = line_fits r d line_room told.text told.is in
       (omega (arith, line_length its told.text told.is, told.long), omega (arith, f, told.long))
 
   -- the line, then the newline after it
-  pub line_written : (out mid out' : List ℕ) (at : ℕ) → at + length (outcome_line (record_outcome form settings t s d line_room)) ≤ length out
-      → mid ≡ buffer_after (part at (length out) out) (record_outcome form settings t s d (length (part at (length out) out)))
+  pub line_written : (out mid out' : List ℕ) (at : ℕ) → at + length (outcome_line (outcome_by r d line_room)) ≤ length out
+      → mid ≡ buffer_after (part at (length out) out) (outcome_by r d (length (part at (length out) out)))
       → out' ≡ put_at (take at out ++ (mid ++ drop (length out - at) (drop at out))) (at + k) (10 ∷ [])
-      → out' ≡ put_at out at (outcome_line (record_outcome form settings t s d line_room))
+      → out' ≡ put_at out at (outcome_line (outcome_by r d line_room))
   line_written out mid out' at h f g =
       let x = told.text in
       let long = told.long in
       let m = measured in
       let p = part at (length out) out in
       let room : length x ≤ length p = omega (arith, part_length out at (length out) (omega arith) (omega arith)) in
-      let again = line_again form settings t s d line_room x (length p) told.is room in
-      let front : mid ≡ put_at p 0 x = f ∙ line_left p (record_outcome form settings t s d (length p)) x again in
+      let again = line_again r d line_room x (length p) told.is room in
+      let front : mid ≡ put_at p 0 x = f ∙ line_left p (outcome_by r d (length p)) x again in
       let whole = ap (λ (l : List ℕ). take at out ++ (l ++ drop (length out - at) (drop at out))) front ∙ part_written out x at (omega arith) in
       join out (take at out ++ (mid ++ drop (length out - at) (drop at out))) out' at (at + k) x (10 ∷ []) whole g (omega arith) (omega arith)
       ∙ ap (put_at out at) (sym (line_shown its x told.is))
@@ -154,8 +174,8 @@ most : (o : Outcome) → ((x : List ℕ) → o ≡ line x → length x ≤ 65536
 most (line x) h = omega (arith, h x refl, line_length (line x) x refl)
 most (refused r) h = omega (arith, refusal_most r, ap length (refusal_shown (refused r) r refl))
 
-pub outcome_most : (form : Form) (settings : Settings) (t : List ℕ) (s : LogSegments) (d : Laid) → length (outcome_line (record_outcome form settings t s d line_room)) ≤ 65537
-outcome_most form settings t s d = most (record_outcome form settings t s d line_room) (λ x e. line_fits form settings t s d line_room x e)
+pub outcome_most : (r : Maker) (d : List ℕ) → length (outcome_line (outcome_by r d line_room)) ≤ 65537
+outcome_most r d = most (outcome_by r d line_room) (λ x e. line_fits r d line_room x e)
 
 -- ---- the answer and the buffer, whether a text fits the room or not
 

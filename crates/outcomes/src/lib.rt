@@ -4,7 +4,7 @@
 ghost use Rattle.std.specs.Prelude.{◌≡◌, ◌+◌, ◌≤◌, length};
 ghost use Rattle.buffer.specs.Buffer.{Puts};
 ghost use Rattle.outcomes.specs.Program.{line_room, outcome_line};
-ghost use Rattle.answer.specs.Rooms.{Asked, outcome_by};
+ghost use Rattle.answer.specs.Rooms.{outcome_by};
 
 use answer::Reading;
 use buffer::put;
@@ -18,7 +18,6 @@ const LINE_ROOM: usize = 65536;
 
 // How many bytes are written for the record d. What measures lends no buffer, and what writes asks for the line: one function for both is no plainer (d).
 pub fn outcome_length(reading: &Reading<'_>, d: &[u8]) -> usize
-    requires { Asked reading.now d.now }
     ensures { (result ≡ length (outcome_line (outcome_by reading.now d.now line_room))) × (result ≤ 65537) }
 {
     let a = reading.measure_record(d, LINE_ROOM);
@@ -30,8 +29,7 @@ pub fn outcome_length(reading: &Reading<'_>, d: &[u8]) -> usize
 
 // Writes them at the place `at`, and returns the place after them.
 pub fn put_outcome(reading: &Reading<'_>, d: &[u8], out: &mut [u8], at: usize) -> usize
-    requires in_bounds { Asked reading.now d.now }
-    requires line_room_in_bounds { at + length (outcome_line (outcome_by reading.now d.now line_room)) ≤ length out.old }
+    requires { at + length (outcome_line (outcome_by reading.now d.now line_room)) ≤ length out.old }
     ensures { Puts out.old out.new at (outcome_line (outcome_by reading.now d.now line_room)) result }
 {
     let a = reading.measure_record(d, LINE_ROOM);

@@ -1,3 +1,2 @@
 pub mod Paths
-pub mod Remaining
 pub mod Computing

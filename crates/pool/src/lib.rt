@@ -1,5 +1,5 @@
-// The pool, which only grows: a segment is stored once, after its members, and never changed. The memory is lent and fixed: a slice that has 64 cells or more, as
-// before, since an array of 64 would ask more of callers (a).
+// The pool, which only grows: a segment is stored once, after its members, and never changed. The memory is lent and fixed: a slice that has 64 cells or more, and
+// no array of 64 nor a type that holds one (a): `template::parse` and the functions here stand in docs/CONTRACTS.md, and ask no more than that.
 #![tactic(auto)]
 
 ghost use Rattle.std.specs.Prelude.{◌≡◌, ◌<◌, ◌≤◌, length, set};
@@ -67,7 +67,7 @@ pub fn back_at(cells: &[Cell], i: usize) -> usize
     link_below(i, cells[i].link)
 }
 
-// The link to the last member of the group at i.
+// The link to the last member of the group at i. Who has the group asks for it here all the same (d): it is cut to what lies below, so that walks end in any pool.
 #[tactic(auto, unfolding(segments::specs::Pool::cell, segments::specs::Pool::kind_at, segments::specs::Pool::last_member))]
 pub fn last_at(cells: &[Cell], i: usize) -> usize
     requires { (64 ≤ length cells.now) × (i < 64) }

@@ -3,14 +3,12 @@
 #![tactic(auto)]
 
 ghost use Rattle.std.specs.Prelude.{◌≤◌, length};
-ghost use Rattle.answer.specs.Rooms.{Asked};
-ghost use Rattle.session.specs.Walking.{records_of, Served};
 
 use answer::Reading;
 use measure::sink::Place;
 use outcomes::{put_outcome, refusing};
 use pointing::point_at;
-use refusals::Refusal;
+use refusals::{Refusal, number_of};
 use segments::EMPTY;
 use session::{Sheet, sheet_in};
 use std::io::Read;
@@ -41,9 +39,12 @@ fn read_full(input: &mut impl Read, buf: &mut [u8]) -> usize
 }
 
 fn write_output(out: &impl Print, err: &impl Print, d: &[u8]) {
-    let Some(sheet) = sheet_in(d) else {
-        write_refusal(out, err, Refusal::NotASheet);
-        return;
+    let sheet = match sheet_in(d) {
+        Ok(sheet) => sheet,
+        Err(r) => {
+            write_refusal(out, err, r);
+            return;
+        }
     };
     let mut cells = [EMPTY; 64];
     match sheet.open(&mut cells) {
@@ -51,7 +52,8 @@ fn write_output(out: &impl Print, err: &impl Print, d: &[u8]) {
         Err(r) => {
             write_refusal(out, err, r);
             if let Refusal::Dropped(p) = r {
-                point_at(err, &sheet, p);
+                let (from, to) = sheet.template_at();
+                point_at(err, &d[from..to], p);
             }
         }
     }
@@ -64,9 +66,7 @@ fn write_refusal(out: &impl Print, err: &impl Print, r: Refusal) {
     explain(err, r);
 }
 
-fn write_records(out: &impl Print, err: &impl Print, sheet: &Sheet<'_>, reading: &Reading<'_>)
-    requires { Served reading.now (records_of sheet.now) }
-{
+fn write_records(out: &impl Print, err: &impl Print, sheet: &Sheet<'_>, reading: &Reading<'_>) {
     for body in sheet.records() {
         // nothing is left to do once the output takes no more
         if !write_record(out, err, reading, body) {
@@ -75,9 +75,7 @@ fn write_records(out: &impl Print, err: &impl Print, sheet: &Sheet<'_>, reading:
     }
 }
 
-fn write_record(out: &impl Print, err: &impl Print, reading: &Reading<'_>, body: &[u8]) -> bool
-    requires { Asked reading.now body.now }
-{
+fn write_record(out: &impl Print, err: &impl Print, reading: &Reading<'_>, body: &[u8]) -> bool {
     // the line buffer's 65,536 bytes and a newline
     let mut line = [0u8; 65537];
     let k = put_outcome(reading, body, &mut line, 0);
@@ -98,30 +96,18 @@ fn written(out: &impl Print, err: &impl Print, bytes: &[u8]) -> bool {
 
 // Why the whole sheet is refused. Of one whose template drops bytes the place says it (`point_at`); the others are refusals of a record, and no sheet has them.
 fn explain(err: &impl Print, r: Refusal) {
-    let words: &[u8] = match r {
-        Refusal::TemplateTooLong => {
-            b"the sheet is refused, 1: its template has more than 1,024 bytes\n"
-        }
-        Refusal::TemplateNotUtf8 => b"the sheet is refused, 2: its template is not UTF-8\n",
-        Refusal::Failure => b"the sheet is refused, 3: its template cannot be read\n",
-        Refusal::NoMessage => b"the sheet is refused, 4: its template names {s} nowhere\n",
-        Refusal::TooManySegments => {
-            b"the sheet is refused, 5: its template has more than 64 parts\n"
-        }
-        Refusal::TooDeep => {
-            b"the sheet is refused, 6: braces of its template stand more than eight deep\n"
-        }
-        Refusal::TooWide => {
-            b"the sheet is refused, 7: its template asks for a width above 512\n"
-        }
-        Refusal::TooManyF => {
-            b"the sheet is refused, 8: a specifier of its template has more than 255 f\n"
-        }
-        Refusal::HalfEscape => {
-            b"the sheet is refused, 9: a backslash ends its template inside a brace\n"
-        }
+    let why = match r {
+        Refusal::TemplateTooLong => "its template has more than 1,024 bytes",
+        Refusal::TemplateNotUtf8 => "its template is not UTF-8",
+        Refusal::Failure => "its template cannot be read",
+        Refusal::NoMessage => "its template names {s} nowhere",
+        Refusal::TooManySegments => "its template has more than 64 parts",
+        Refusal::TooDeep => "braces of its template stand more than eight deep",
+        Refusal::TooWide => "its template asks for a width above 512",
+        Refusal::TooManyF => "a specifier of its template has more than 255 f",
+        Refusal::HalfEscape => "a backslash ends its template inside a brace",
         Refusal::NotASheet => {
-            b"the sheet is refused, 15: it is not laid out as one, has an unknown settings bit, or has more than 65,536 bytes\n"
+            "it is not laid out as one, has an unknown settings bit, or has more than 65,536 bytes"
         }
         Refusal::Dropped(_)
         | Refusal::FieldTooLong
@@ -129,7 +115,7 @@ fn explain(err: &impl Print, r: Refusal) {
         | Refusal::LineTooLong(_)
         | Refusal::NotARecord => return,
     };
-    say(err, words);
+    let _ = println!(err; "the sheet is refused, {}: {why}", number_of(r));
 }
 
 // A word that the error output doesn't take is lost: there is nowhere else to say it.

@@ -1,12 +1,11 @@
 // A place of a sheet's template, shown to a person: what is wrong there, the line of the template that holds the place, and a caret below it.
 use super::say;
 use caret::{put_caret, put_line};
-use session::Sheet;
 
-// Says that the template of the sheet drops bytes or loses a parameter, first at its place p, and shows the place.
-pub(crate) fn point_at(err: &impl Print, sheet: &Sheet<'_>, p: usize) {
+// Says that the template t of the sheet drops bytes or loses a parameter, first at its place p, and shows the place.
+pub(crate) fn point_at(err: &impl Print, t: &[u8], p: usize) {
     say_place(err, p);
-    show_place(err, sheet.template(), p);
+    show_place(err, t, p);
 }
 
 // What is wrong, and where. Each line is one write: the words of another program could come between pieces.

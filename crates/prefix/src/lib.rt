@@ -21,7 +21,7 @@ static FOREGROUND: [[u8; 2]; 10] = [
 ];
 
 // Writes the prefix of a look at the front of `into`, and returns its length: at most 15, and 0, the length of no bytes (d), where no colour or style applies.
-// It is built in a lent buffer, code after code: a struct that holds it would be copied at each byte.
+// It is built in a lent buffer, code after code (d): a struct that holds it would be handed on, and copied, code by code.
 pub fn put_prefix(k: Look, into: &mut [u8]) -> usize
     requires { 16 ≤ length into.old }
     ensures { (result ≡ length (prefix k)) × ((take result into.new ≡ prefix k) × (length into.new ≡ length into.old)) }

@@ -4,7 +4,8 @@ use mathlib.Core.Path.{◌≡◌, refl, sym, ap, subst, ◌∙◌}
 use mathlib.Core.Bool.{Bool, true, false, not}
 use mathlib.Core.List.{List}
 use native.Mathlib.Omega.{arith}
-use lib.ListN.{length}
+use native.Mathlib.Nat.{le_trans}
+use lib.ListN.{length, take}
 use Rattle.std.specs.Prelude.{None, Ok}
 use Rattle.words.specs.Within.{told, Fitting}
 use Rattle.runs.specs.Runs.{stands}
@@ -17,7 +18,9 @@ use Rattle.building.specs.declared.Inner.{Inner}
 use Rattle.building.specs.declared.Items.{Items}
 use Rattle.braces.specs.Braces.{closing}
 use Rattle.building.specs.Reading.{Made, Reader, nothing, Content, no_content, item_at, separator, content_at, group_at, brace_to, brace_at, inside_at}
-use Rattle.building.specs.Told.{Read, tell, tell_inner, tell_items, built_of, Room, Keeps, InnerKeeps, InnerMade, ItemsKeep}
+use Rattle.building.proofs.Bounds.{fitted_moved}
+use Rattle.words.proofs.Answers.{fitting_on}
+use Rattle.building.specs.Told.{Read, tell, tell_inner, tell_items, built_of, Room, Fitted, Keeps, InnerKeeps, InnerMade, ItemsKeep}
 
 -- ---- braces
 
@@ -82,3 +85,11 @@ built_last c cells j x q y r = r ∙ ap (λ (z : Tried Content). z then built_of
 
 pub stood : (b d : ℕ) → b ≡ d → (t : List ℕ) (i e : ℕ) (r x : Bool) → r ≡ stands b t i e → r ≡ x → stands d t i e ≡ x
 stood b d q t i e r x h g = ap (λ (z : ℕ). stands z t i e) (sym q) ∙ sym h ∙ g
+
+-- what follows ends where the whole does, so that the whole is kept as it is
+pub kept_on : (lo' lo to n link d' d : ℕ) (z b a : List Cell) (o : Read ℕ) → lo' ≤ lo → d ≡ d' → take n b ≡ take n z → Keeps lo to n link d b a o → Keeps lo' to n link d' z a o
+kept_on lo' lo to n link d' d z b a o g q f h = record {
+  front = h.front ∙ f;
+  within = fitting_on _ _ o
+      (λ j k p. subst (λ (x : ℕ). Fitted lo' to n link x a j k) q (fitted_moved _ _ _ _ _ _ _ _ p lo' to j (le_trans g p.from) p.end)) h.within;
+}

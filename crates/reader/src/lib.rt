@@ -7,7 +7,7 @@ ghost use Rattle.std.specs.Prelude.{◌≡◌, ℕ, ◌+◌, ◌-◌, ◌*◌, �
 ghost use Rattle.segments.specs.Segments.{is_specifier};
 ghost use Rattle.segments.specs.Pool.{segment_at};
 ghost use Rattle.building.specs.Reading.{separator, piece_at, inside_at, brace_in, group_in, item_in};
-ghost use Rattle.building.specs.Told.{tell, tell_items, tell_item, tell_pieces, tell_piece, further_built, Room, Keeps, ItemsKeep, ItemWithin, PiecesKeep, PieceWithin};
+ghost use Rattle.building.specs.Told.{tell, tell_items, tell_item, tell_pieces, tell_piece, further_built, Room, Keeps, ItemsReady, ItemsKeep, ItemWithin, PiecesReady, PiecesKeep, PieceWithin};
 
 use braces::take_until_unbalanced;
 use building::{Inner, Items, Pieces, build_group, build_log_segment};
@@ -69,10 +69,10 @@ fn parse_log_segment(
         inner: Inner::Nothing,
         made: n,
     };
-    let Some((j, c)) = parse_item(t, from, to, left - 1, even, link, cells, none, n)? else {
+    let Some((j, c)) = parse_item(t, from, to, left - 1, even, link, cells, none)? else {
         return Ok(None);
     };
-    further_items(t, j, to, left - 1, even, link, cells, c, n)
+    further_items(t, j, to, left - 1, even, link, cells, c)
 }
 
 #[tactic(auto, unfolding(building::specs::Reading::separator))]
@@ -82,7 +82,8 @@ pub fn separator_of(even: bool) -> u8
     if even { b'%' } else { b':' }
 }
 
-// The items after the first, and what they all add up to. It is no `for`, nor is the walk of a group: each item says where the next one may begin (d).
+// The items after the first, and what they all add up to; n segments were made where the content begins, as clauses say alone. It is no `for`, nor is the
+// walk of a group (d): each item is read by what those before it said, may refuse, stores in the lent pool, and says where the next one may begin.
 #[cycle(reading)]
 #[inline(always)]
 fn further_items(
@@ -94,17 +95,16 @@ fn further_items(
     link: usize,
     cells: &mut [Cell],
     c: Items,
-    n: usize,
 ) -> Read<usize>
-    requires { (from ≤ to) × (to ≤ length t.now) × (left + 1 ≤ 8) × (64 ≤ length cells.old) × (link ≤ n) × ItemsKeep n link (left + 1) cells.old c }
+    requires { (from ≤ to) × (to ≤ length t.now) × (left + 1 ≤ 8) × (64 ≤ length cells.old) × ((n : ℕ) × (link ≤ n) × ItemsKeep n link (left + 1) cells.old c) }
     ensures by_index { (m : ℕ) → to - from ≤ m → tell result cells.new ≡ further_built left even t.now to m from (tell_items c cells.old) }
-    ensures keeps { Keeps from to n link (left + 1) cells.old cells.new result }
+    ensures keeps { (n : ℕ) → ItemsKeep n link (left + 1) cells.old c → Keeps from to n link (left + 1) cells.old cells.new result }
 {
     let separator = separator_of(even);
     let mut c = c;
     let mut j = from;
     while runs::stands_at(separator, t, j, to) {
-        let Some((k, d)) = parse_item(t, j + 1, to, left, even, link, cells, c, n)? else {
+        let Some((k, d)) = parse_item(t, j + 1, to, left, even, link, cells, c)? else {
             break;
         };
         c = d;
@@ -124,12 +124,11 @@ fn parse_item(
     link: usize,
     cells: &mut [Cell],
     c: Items,
-    n: usize,
 ) -> Read<Items>
-    requires { (from ≤ to) × (to ≤ length t.now) × (left + 1 ≤ 8) × (64 ≤ length cells.old) × (link ≤ n) × ItemsKeep n link (left + 1) cells.old c }
+    requires { (from ≤ to) × (to ≤ length t.now) × (left + 1 ≤ 8) × Room cells.old c.made link × ItemsReady c }
     ensures cells_after { tell_item result cells.new ≡ item_in left even t.now to from (tell_items c cells.old) }
     ensures front { take c.made cells.new ≡ take c.made cells.old }
-    ensures keeps { ItemWithin from to n link (left + 1) cells.new result }
+    ensures keeps { (n : ℕ) → ItemsKeep n link (left + 1) cells.old c → ItemWithin from to n link (left + 1) cells.new result }
 {
     if let Some(plain) = parse_plain_item(t, from, to, even, link, cells, c)? {
         return Ok(Some(plain));
@@ -164,7 +163,7 @@ fn parse_nested(
     };
     let mut i = from;
     while i < to {
-        let Some((j, h)) = parse_piece(t, i, to, left, even, cells, g, n)? else {
+        let Some((j, h)) = parse_piece(t, i, to, left, even, cells, g)? else {
             break;
         };
         g = h;
@@ -190,12 +189,11 @@ fn parse_piece(
     even: bool,
     cells: &mut [Cell],
     g: Pieces,
-    n: usize,
 ) -> Read<Pieces>
-    requires { (from ≤ to) × (to ≤ length t.now) × (left + 1 ≤ 8) × (64 ≤ length cells.old) × PiecesKeep n left cells.old g }
+    requires { (from ≤ to) × (to ≤ length t.now) × (left + 1 ≤ 8) × Room cells.old g.made g.last × PiecesReady cells.old g }
     ensures cells_after { tell_piece result cells.new ≡ piece_at t.now (brace_in left even t.now) to from (tell_pieces g cells.old) }
     ensures front { take g.made cells.new ≡ take g.made cells.old }
-    ensures keeps { PieceWithin (from + 1) to n left cells.new result }
+    ensures keeps { (n : ℕ) → PiecesKeep n left cells.old g → PieceWithin (from + 1) to n left cells.new result }
 {
     // most pieces are no brace, and to see that costs less than the call
     let brace = if runs::stands_at(b'{', t, from, to) {

@@ -8,7 +8,7 @@ use words::Color;
 
 // "Level numbers 1 to 5 mean ERROR, WARN, INFO, DEBUG, TRACE, coloured red, yellow, green, bright white, bright black; 0 is a print without level".
 // The only place that takes a level number apart, by a match with ranges, which document 01 names (a): checks, names and colours go by what it answers.
-// By name and not by `From` (d): laws and clauses name it.
+// By name and not by `From` (a): docs/CONTRACTS.md has the function (`level_of_settled`).
 #[tactic(auto, using(crate::proofs::LevelNumbers::over_five), unfolding(crate::specs::Levels::level_of, crate::specs::Levels::level_in))]
 pub fn level_of(n: usize) -> Level
     ensures { result ≡ level_of n }
@@ -24,7 +24,7 @@ pub fn level_of(n: usize) -> Level
     }
 }
 
-// "0 device, 1 host". By name, as `level_of` is (d).
+// "0 device, 1 host". By name, as `level_of` is (a).
 #[tactic(auto, unfolding(crate::specs::Contents::source_of))]
 pub fn source_of(n: usize) -> Source
     ensures { result ≡ source_of n }

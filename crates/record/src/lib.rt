@@ -42,7 +42,8 @@ pub enum Form {
 }
 
 // A record as numbers: what its bytes say, and the places of its texts in them. Pairs stay plain numbers (d): clauses name each, and a type for them is no
-// shorter. So do source, level and mask (d): refusal 14 judges them before they mean anything, and says how large they may be.
+// shorter. So do source, level and mask (d): refusal 14 judges them before they mean anything, and says how large they may be; and the level so beyond that (b):
+// to match its `Level` at each segment took up to 5% more instructions (docs/DECISIONS.md).
 #[derive(Clone, Copy)]
 pub struct Places {
     pub source: usize,

@@ -23,7 +23,7 @@ pub enum Refusal {
     Dropped(usize),
 }
 
-// The number of a refusal: those of the C interface, with gaps, so that they are written out (a).
+// The number of a refusal, by the C interface. They are written out (d): two of the kinds carry a number, and in such an enum no kind may be given one.
 pub fn number_of(r: Refusal) -> u8
     ensures { (result ≡ number r) × (result ≤ 17) }
 {

@@ -106,7 +106,7 @@ impl Material<'_> {
         closed(c, s, f, w.inserted, w.right)
     }
 
-    // The bytes of the members back from the link `l`, by their rows. A sum has no order, so it goes along the links of the pool, which lead back (a).
+    // The bytes of the members back from the link `l`, by their rows. A sum has no order, so it goes along the links of the pool, which lead back; a `while`, as `join_of` is (d).
     pub fn members_len(&self, table: &[Row], l: usize) -> usize
         requires in_bounds { (64 ≤ length self.now.cells.now) × ((l ≤ 64) × (l ≤ length table.now)) }
         requires l_bound { lengths_back self.now.cells.now table.now l < 2 ^ 57 }

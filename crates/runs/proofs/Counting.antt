@@ -1,9 +1,14 @@
 -- Laws of the number that digits say. Assumes nothing.
-use Prim.Native.Nat.{ℕ, ◌+◌, ◌-◌, ◌*◌, ◌≤◌, ◌<◌, min}
-use mathlib.Core.Path.{◌≡◌, ap}
+use Prim.Native.Nat.{ℕ, ◌+◌, ◌-◌, ◌*◌, ◌≤◌, ◌<◌}
+use mathlib.Core.Path.{◌≡◌, refl, ap, sym}
+use mathlib.Core.Bool.{Bool, true, false}
 use mathlib.Core.List.{List, [], ◌∷◌}
 use native.Mathlib.Omega.{arith}
+use lib.Dec.{leb}
 use lib.ListN.{length, get_or, drop, drop_of_length-le}
+use borrow.Author.Tests.{le-leb, lt-leb, leb-true, leb-false}
+use Rattle.std.specs.Bool.{then_some}
+use Rattle.std.specs.Prelude.{Option, Some, None, MatchOption}
 use Rattle.buffer.proofs.Parts.{drop_step}
 use Rattle.runs.specs.Runs.{decimal}
 
@@ -22,12 +27,19 @@ unfolding decimal
 decimal_grows n [] = omega arith
 decimal_grows n (b ∷ w) = let h = decimal_grows (n * 10 + (b - 0x30)) w in omega arith
 
--- what is over 512 on the way stays over it
-pub decimal_over : (n : ℕ) (w : List ℕ) (d : ℕ) → decimal n w ≡ d → 512 < n → 513 ≡ min 513 d
-decimal_over n w d q h = let g = decimal_grows n w in omega arith
+-- what is over `most` on the way stays over it
+pub decimal_over : (n : ℕ) (w : List ℕ) (d most : ℕ) → decimal n w ≡ d → most < n → None ≡ then_some (leb d most) d
+decimal_over n w d most q h = let g = decimal_grows n w in rw (lt-leb d most (omega arith))
 
-pub capped_fits : (n d : ℕ) → n ≡ min 513 d → n ≤ 512 → d ≡ n
-capped_fits n d q h = omega arith
+pub decimal_within : (n d most : ℕ) → n ≡ d → n ≤ most → Some n ≡ then_some (leb d most) d
+decimal_within n d most q h = rw (le-leb d most (omega arith)) (ap Some q)
 
-pub capped_over : (n d : ℕ) → n ≡ min 513 d → 512 < n → 512 < d
-capped_over n d q h = omega arith
+-- what an answer tells
+pub number_tells : (d most : ℕ) (o : Option ℕ) → o ≡ then_some (leb d most) d → MatchOption o (most < d) (λ n. (d ≡ n) × (n ≤ most))
+number_tells d most o e = tells (leb d most) refl o e
+  where
+    tells : (b : Bool) → leb d most ≡ b → (o : Option ℕ) → o ≡ then_some b d → MatchOption o (most < d) (λ n. (d ≡ n) × (n ≤ most))
+    tells true h None e = cc
+    tells true h (Some n) e = let k : n ≡ d = cc in let g = leb-true _ _ h in (sym k, omega arith)
+    tells false h None e = leb-false _ _ h
+    tells false h (Some n) e = cc

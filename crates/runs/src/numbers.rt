@@ -1,20 +1,18 @@
 // Decimal numbers of a template.
-ghost use Rattle.std.specs.Prelude.{◌≡◌, ◌≤◌, min, length};
-ghost use Rattle.buffer.specs.Bytes.{part};
+ghost use Rattle.std.specs.Bool.{then_some};
+ghost use Rattle.std.specs.Prelude.{◌≡◌, leb};
 ghost use Rattle.runs.specs.Runs.{decimal};
 
-// The number that the digits t[from..to] say, or 513 where they say more: no width above 512 is taken, however many digits say it. It is no `Option` (a), since
-// `width_at` reads it as the number `min 513`, and whoever calls this refuses what is above 512.
-pub fn width(t: &[u8], from: usize, to: usize) -> usize
-    requires { (from ≤ to) × (to ≤ length t.now) }
-    ensures { result ≡ min 513 (decimal 0 (part from to t.now)) }
+// The number that the digits say, where it is `most` at most. However many digits say a number, reading stops at the first that makes it more.
+pub fn number_up_to(most: u16, digits: &[u8]) -> Option<u16>
+    ensures { result ≡ then_some (leb (decimal 0 digits.now) most) (decimal 0 digits.now) }
 {
     let mut n = 0;
-    for b in &t[from..to] {
-        n = n * 10 + usize::from(b.saturating_sub(b'0'));
-        if 512 < n {
-            return 513;
+    for b in digits {
+        n = n * 10 + u32::from(b.saturating_sub(b'0'));
+        if u32::from(most) < n {
+            return None;
         }
     }
-    n
+    Some(n as u16)
 }

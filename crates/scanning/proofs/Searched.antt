@@ -1,12 +1,14 @@
 -- Laws of the search that only code needs: texts without byte 27, padding. Assumes nothing.
 use mathlib.Core.Path.{◌≡◌, refl, ap, sym, subst, ◌∙◌}
 use mathlib.Core.Bool.{Bool, true, false}
-use mathlib.Core.List.{List}
+use mathlib.Core.List.{List, [], ◌∷◌}
+use Rattle.std.specs.Prelude.{◌||◌}
+use Rattle.std.specs.List.{list_any}
 use Prim.Native.Nat.{ℕ, suc, ◌+◌, ◌-◌, ◌<◌, ◌≤◌}
 use native.Mathlib.Omega.{arith}
 use lib.ListN.{length, drop, get_or, replicate, drop_of_length-le}
-use lib.Dec.{leb}
-use borrow.Author.Tests.{ne_eqb, leb-true, leb-false}
+use lib.Dec.{leb, eqb}
+use borrow.Author.Tests.{ne_eqb, eq-eqb, leb-true, leb-false}
 use Rattle.utf8.specs.Utf8.{within}
 use Rattle.buffer.proofs.Parts.{drop_step}
 use Rattle.utf8.proofs.Ranges.{within_in, within_below, within_above}
@@ -22,11 +24,15 @@ never e = let z : ◌≡◌ {A = ℕ} 0 1 = cc in omega arith
 
 -- ---- texts without byte 27
 
-pub free_step : (s : List ℕ) (i : ℕ) → i < length s → (get_or s i 0 ≡ esc → ⊥) → Free (drop (i + 1) s) → Free (drop i s)
-free_step s i h n f = subst Free (sym (drop_step s i h)) (n, f)
+neither : (a b : Bool) → a || b ≡ false → (a ≡ false) × (b ≡ false)
+neither false b e = (refl, e)
+neither true b e = absurd (never (sym e))
 
-pub free_end : (s : List ℕ) (i : ℕ) → length s ≤ i → Free (drop i s)
-free_end s i h = subst Free (sym (drop_of_length-le s h)) tt
+pub free_of : (s : List ℕ) → list_any (λ b. eqb b esc) s ≡ false → Free s
+free_of [] e = tt
+free_of (b ∷ s) e =
+    let n = neither (eqb b esc) (list_any (λ b. eqb b esc) s) e in
+    (λ h. never (sym n.0 ∙ eq-eqb b esc h), free_of s n.1)
 
 -- ---- the same byte many times
 

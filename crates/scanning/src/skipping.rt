@@ -2,8 +2,6 @@
 // one takes a small part of the time of going through it byte by byte.
 ghost use Rattle.std.specs.Prelude.{◌≡◌, ◌+◌, ◌<◌, ◌≤◌, ◌^◌, length};
 ghost use Rattle.colour.specs.Machine.{scan};
-ghost use Rattle.colour.specs.Sequences.{esc};
-ghost use Rattle.colour.specs.Texts.{Free};
 ghost use Rattle.scanning.specs.Resting.{is_resting};
 ghost use Rattle.scanning.specs.Room.{Searchable};
 
@@ -34,11 +32,10 @@ fn scan_blocks(t: Scan, s: &[u8]) -> Scan
 }
 
 fn scan_block(t: Scan, s: &[u8]) -> Scan
-    requires s_bound { Searchable t (length s.now) }
-    requires s_len_bound { length s.now ≤ 128 }
+    requires { Searchable t (length s.now) }
     ensures { result ≡ scan t s.now }
 {
-    if rests(t) && escapes(s) == 0 {
+    if rests(t) && !s.contains(&27) {
         return t;
     }
     scan_bytes(t, s)
@@ -61,17 +58,4 @@ pub fn rests(t: Scan) -> bool
     ensures { result ≡ is_resting t.state t.held }
 {
     matches!(t.state, State::Outside) && t.held == 0
-}
-
-// Counts the bytes 27; only that there is none is promised. The counter is one byte wide, so that the compiler counts many bytes
-// in one step, as in characters (b); the text has 128 at most, so that it does not wrap.
-fn escapes(s: &[u8]) -> u8
-    requires { length s.now ≤ 128 }
-    ensures { result ≡ 0 → Free s.now }
-{
-    let mut count: u8 = 0;
-    for &b in s {
-        count += u8::from(b == 27);
-    }
-    count
 }

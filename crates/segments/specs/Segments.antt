@@ -3,7 +3,6 @@ use Rattle.std.specs.Prelude.{ℕ, Bool, true, false, ◌||◌}
 use Rattle.words.specs.declared.LogMetadata.{LogMetadata}
 use Rattle.words.specs.declared.LogMetadata.TheVariants.{CrateName, FileName, FilePath, LineNumber, Log, LogLevel, ModulePath, Timestamp, HeadSerial}
 use Rattle.words.specs.declared.LogFormat.{LogFormat}
-use Rattle.segments.specs.declared.Wanted.{Wanted}
 
 -- "Each text, specifier and group is a segment": a text is a place in the template (its bytes from one place up to another)
 mutual
@@ -56,11 +55,6 @@ is_timestamp LogLevel = false
 is_timestamp ModulePath = false
 is_timestamp Timestamp = true
 is_timestamp HeadSerial = false
-
--- which of the two is looked for
-abbrev pub is_wanted : Wanted → LogMetadata → Bool
-is_wanted Wanted.Message m = is_log m
-is_wanted Wanted.Time m = is_timestamp m
 
 -- a specifier of some kind is named "at any depth"
 unfoldable mutual

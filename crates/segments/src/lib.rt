@@ -38,10 +38,3 @@ pub const EMPTY: Cell = Cell {
     },
     link: 0,
 };
-
-// What a template is searched for at any depth. Two kinds that the contracts name are plainer than a closure handed down a cycle of calls (d).
-#[derive(Clone, Copy)]
-pub enum Wanted {
-    Message,
-    Time,
-}

@@ -21,28 +21,29 @@ use Rattle.sheet.specs.Sheets.{Sheet, body_count, contents_end, bodies_from, are
 use Rattle.sheet.proofs.Standing.{both_true, stands, sheet_some, sheet_none}
 use Rattle.sheet.proofs.Walk.{Left, next_fits, next_left, bodies_next, bodies_end}
 use Rattle.sheet.proofs.Heads.{head_of, sheet_held}
-use Rattle.std.specs.Prelude.{Result, Ok, Err, None, Some}
-use Rattle.std.proofs.lemmas.Option.{none-some, same_Some}
-use Rattle.std.specs.Bool.{then_some}
-use Rattle.template.specs.Parsing.{tell_parsed, ReadKeeps, ParsedKeeps}
+use Rattle.std.specs.Prelude.{Result, Ok, Err}
+use Rattle.template.specs.Parsing.{tell_parsed, ParsedKeeps}
 use Rattle.segments.specs.Pool.{chain_at}
-use Rattle.answer.specs.declared.Reading.{Reading}
-use Rattle.answer.specs.Rooms.{Asked, outcome_by}
+use Rattle.answer.specs.Maker.{Maker}
+use Rattle.answer.specs.Rooms.{segments_of, outcome_by}
+use Rattle.answer.proofs.Answering.{sized}
 use Rattle.answer.specs.Answers.{line, refused, in_room, record_outcome}
 use Rattle.settings.specs.Bits.{is_known, settings_of, edition_of}
 use Rattle.template.proofs.Refusing.{read_short, refused_by, small_value}
 use Rattle.outcomes.specs.Program.{line_room, outcome_line, record_lines, sheet_text, maybe_sheet_text, session_text, fitting, session_outcome, refusal_line, as_output, output}
-use Rattle.session.specs.Walking.{opened_by, opening, tell_opened, OpenedKeeps, Reads, settings_in, form_by, template_in, records_from, records_of, Ready, Standing, Served, lines_from, lines_by, all_lines}
+use Rattle.session.specs.Walking.{sheet_or, opened_by, opening, tell_opened, OpenedKeeps, settings_in, form_by, template_in, records_from, maker_in, records_of, Ready, Standing, lines_from, lines_by, all_lines}
 
 -- ---- what `sheet_in` answers
 
-pub no_sheet : (d : List ℕ) (b : Bool) → then_some b d ≡ None → b ≡ false
-no_sheet d true e = absurd (none-some d (sym e))
-no_sheet d false e = refl
+pub no_sheet : (d : List ℕ) (r : Refusal) (b : Bool) → sheet_or b d ≡ Err r → (b ≡ false) × (Refusal.NotASheet ≡ r)
+unfolding sheet_or
+no_sheet d r true e = let z : ◌≡◌ {A = ℕ} 0 1 = cc in absurd (omega (arith, z))
+no_sheet d r false e = (refl, cc)
 
-pub its_sheet : (d s : List ℕ) (b : Bool) → then_some b d ≡ Some s → d ≡ s
-its_sheet d s true e = same_Some d s e
-its_sheet d s false e = absurd (none-some s e)
+pub its_sheet : (d s : List ℕ) (b : Bool) → sheet_or b d ≡ Ok s → d ≡ s
+unfolding sheet_or
+its_sheet d s true e = cc
+its_sheet d s false e = let z : ◌≡◌ {A = ℕ} 0 1 = cc in absurd (omega (arith, z))
 
 -- ---- a sheet that is one
 
@@ -126,24 +127,28 @@ few d e =
     let s = stands d e in
     omega (arith, count_of (body_count d - 1) d 6 (records_from d), h.lengths, s.short)
 
--- ---- one record and the others, of those that a reading serves
+-- ---- one record and the others
 
-module _ (r : Reading) (records : List (List ℕ)) where
+module _ (r : Maker) (records : List (List ℕ)) where
   module _ (x : List ℕ) (rest : List (List ℕ)) (e : records ≡ x ∷ rest) where
-    pub served_more : Served r records → Asked r x × Served r rest
-    unfolding Served
-    served_more h = subst (Served r) e h
-
     pub lines_more : lines_by r records ≡ outcome_line (outcome_by r x line_room) ++ lines_by r rest
-    unfolding lines_from
+    unfolding lines_by
     lines_more = ap (lines_by r) e
 
     pub lines_count : length (lines_by r records) ≡ length (outcome_line (outcome_by r x line_room)) + length (lines_by r rest)
     lines_count = ap length lines_more ∙ length-append (outcome_line (outcome_by r x line_room)) (lines_by r rest)
 
   pub lines_end : records ≡ [] → lines_by r records ≡ []
-  unfolding lines_from
+  unfolding lines_by
   lines_end e = ap (lines_by r) e
+
+-- records of the right size have the lines that they have by their form
+lines_sized : (r : Maker) (records : List (List ℕ)) → are_records r.form records ≡ true → lines_by r records ≡ lines_from r.form r.settings r.template (segments_of r) records
+unfolding lines_by lines_from are_records
+lines_sized r [] e = refl
+lines_sized r (x ∷ rest) e =
+    let b = both_true (right_size r.form x) (are_records r.form rest) e in
+    λ k. outcome_line (sym (sized r x line_room b.0) k) ++ lines_sized r rest b.1 k
 
 -- ---- the text of a session
 
@@ -206,34 +211,14 @@ module _ (d : List ℕ) (cells : List Cell) (t : List ℕ) (x : Edition) (sheet 
   unfolding tell_opened
   opens (Ok n) told pool keeps =
       let p : read (chain_at cells n) ≡ read_in d = told ∙ reads_in in
-      (p ∙ sym (opening_some d sheet), record { sheet = sheet; pool = pool; keeps = keeps; short = read_short (edition_of (settings_in d)) (template_in d) (chain_at cells n) (sym p) })
+      (p ∙ sym (opening_some d sheet), record { sheet = sheet; read = record { pool = pool; read = keeps; template = read_short (edition_of (settings_in d)) (template_in d) (chain_at cells n) (sym p) } })
   opens (Err q) told pool keeps = (told ∙ reads_in ∙ sym (opening_some d sheet), tt)
 
-module _ (d : List ℕ) (cells : List Cell) (n : ℕ) (r : Reading) (reads : Reads d cells n r) where
-  module _ (ready : Ready d cells n) where
-    served_right : (records : List (List ℕ)) → are_records r.form records ≡ true → Served r records
-    unfolding Served are_records
-    served_right [] e = tt
-    served_right (x ∷ rest) e =
-        let b = both_true (right_size r.form x) (are_records r.form rest) e in (
-          record {
-            pool = subst (λ (y : List Cell). 64 ≤ length y) (sym reads.pool) ready.pool;
-            read = subst (λ (y : List Cell). ReadKeeps y r.count) (sym reads.pool) (subst (ReadKeeps cells) (sym reads.count) ready.keeps);
-            template = subst (λ (y : List ℕ). length y ≤ 1024) (sym reads.template) ready.short;
-            size = b.0;
-          },
-          served_right rest b.1,
-        )
-
-    pub served_all : Served r (records_of d)
-    unfolding records_of records_from
-    served_all =
-        let h = head_of d (body_count d - 1) (one_more d ready.sheet) ready.sheet in
-        served_right (records_of d) (ap (λ (f : Form). are_records f (records_of d)) reads.form ∙ h.records)
-
-  pub lines_read : lines_by r (records_of d) ≡ all_lines d (chain_at cells n)
-  lines_read =
-      λ k. lines_from (reads.form k) (reads.settings k) (reads.template k) (chain_at (reads.pool k) (reads.count k)) (records_of d)
+pub lines_read : (d : List ℕ) (cells : List Cell) (n : ℕ) → is_sheet d ≡ true → lines_by (maker_in d cells n) (records_of d) ≡ all_lines d (chain_at cells n)
+unfolding records_of records_from
+lines_read d cells n e =
+    let h = head_of d (body_count d - 1) (one_more d e) e in
+    lines_sized (maker_in d cells n) (records_of d) h.records
 
 -- what is written after what is written
 pub put_then : (d d' : List ℕ) (at to : ℕ) (s t : List ℕ) → d' ≡ put_at d at s → to ≡ at + length s → at + (length s + length t) ≤ length d → put_at d' to t ≡ put_at d at (s ++ t)

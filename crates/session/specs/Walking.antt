@@ -1,5 +1,5 @@
 -- Scaffolding, for proofs alone: an open sheet by places in it, and the lines of its records as the code walks along them. Assumes nothing.
-use Rattle.std.specs.Prelude.{Result, Ok, Err, ℕ, ◌+◌, ◌-◌, ◌*◌, ◌≤◌, ◌≡◌, true, List, [], ◌∷◌, ◌++◌, length, get_or}
+use Rattle.std.specs.Prelude.{Result, Ok, Err, ℕ, ◌+◌, ◌-◌, ◌*◌, ◌≤◌, ◌≡◌, Bool, true, false, List, [], ◌∷◌, ◌++◌, length, get_or}
 use Rattle.buffer.specs.Bytes.{part}
 use Rattle.buffer.specs.Table.{Maybe, none, some}
 use Rattle.refusals.specs.declared.Refusal.{Refusal}
@@ -7,18 +7,22 @@ use Rattle.segments.specs.declared.Cell.{Cell}
 use Rattle.segments.specs.Segments.{LogSegments}
 use Rattle.segments.specs.Pool.{chain_at}
 use Rattle.template.specs.Template.{Template, read, refusal, read_by}
-use Rattle.template.specs.Parsing.{ReadKeeps}
 use Rattle.record.specs.declared.Form.{Form}
 use Rattle.record.specs.Layout.{u32, laid_out}
 use Rattle.colour.specs.declared.Settings.{Settings}
 use Rattle.answer.specs.Answers.{record_outcome}
-use Rattle.answer.specs.Rooms.{Asked, segments_of}
+use Rattle.answer.specs.Maker.{Maker, maker_of, IsRead}
+use Rattle.answer.specs.Rooms.{outcome_by}
 use Rattle.settings.specs.Bits.{settings_of, edition_of, form_of}
 use Rattle.sheet.specs.Sheets.{Sheet, body_count, contents_end, bodies_from, body_bytes, is_sheet, sheet_of}
-use Rattle.answer.specs.declared.Reading.{Reading}
 use Rattle.outcomes.specs.Program.{line_room, outcome_line}
 
 -- ---- opening a sheet
+
+-- the bytes, where they are a sheet; else refusal 15
+unfoldable pub sheet_or : Bool → List ℕ → Result (List ℕ) Refusal
+sheet_or true d = Ok d
+sheet_or false d = Err Refusal.NotASheet
 
 unfoldable pub opened_by : Maybe Sheet → Template
 opened_by none = refusal Refusal.NotASheet
@@ -51,24 +55,18 @@ template_in d = part (contents_end d + 1) (contents_end d + u32 d 2) d
 unfoldable pub records_from : List ℕ → ℕ
 records_from d = contents_end d + u32 d 2
 
--- what a sheet has whose template was read into n segments
+-- a sheet whose template was read into n segments
 pub record Ready (d : List ℕ) (cells : List Cell) (n : ℕ) : Type 0 where
   pub sheet : is_sheet d ≡ true
-  pub pool : 64 ≤ length cells
-  pub keeps : ReadKeeps cells n
-  pub short : length (template_in d) ≤ 1024
+  pub read : IsRead (template_in d) cells n
 
 abbrev pub OpenedKeeps : List ℕ → List Cell → Result ℕ Refusal → Type 0
 OpenedKeeps d cells (Ok n) = Ready d cells n
 OpenedKeeps d cells (Err r) = Unit {0}
 
 -- what its records' lines are made by
-pub record Reads (d : List ℕ) (cells : List Cell) (n : ℕ) (r : Reading) : Type 0 where
-  pub form : r.form ≡ form_by d
-  pub settings : r.settings ≡ settings_of (settings_in d)
-  pub template : r.template.now ≡ template_in d
-  pub pool : r.cells.now ≡ cells
-  pub count : r.count ≡ n
+abbrev pub maker_in : List ℕ → List Cell → ℕ → Maker
+maker_in d cells n = maker_of (settings_in d) (template_in d) cells n
 
 -- its records: all bodies but body 0
 unfoldable pub records_of : List ℕ → List (List ℕ)
@@ -81,11 +79,6 @@ pub record Standing (left : ℕ) (d : List ℕ) (i j : ℕ) : Type 0 where
   pub lengths : i + 4 * left ≤ length d
   pub whole : j + body_bytes left d i ≡ length d
 
--- each of these records may be asked for its line
-unfoldable pub Served : Reading → List (List ℕ) → Type 0
-Served r [] = Unit {0}
-Served r (body ∷ rest) = Asked r body × Served r rest
-
 -- ---- what is written
 
 -- the lines of these records, one after the other
@@ -93,9 +86,10 @@ unfoldable pub lines_from : Form → Settings → List ℕ → LogSegments → L
 lines_from form settings t s [] = []
 lines_from form settings t s (body ∷ rest) = outcome_line (record_outcome form settings t s (laid_out form body) line_room) ++ lines_from form settings t s rest
 
--- made as a reading says
-abbrev pub lines_by : Reading → List (List ℕ) → List ℕ
-lines_by r records = lines_from r.form r.settings r.template.now (segments_of r) records
+-- made as the code makes them
+unfoldable pub lines_by : Maker → List (List ℕ) → List ℕ
+lines_by r [] = []
+lines_by r (body ∷ rest) = outcome_line (outcome_by r body line_room) ++ lines_by r rest
 
 -- the lines of all records of a sheet, by a template that was read
 abbrev pub all_lines : List ℕ → LogSegments → List ℕ

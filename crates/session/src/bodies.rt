@@ -1,5 +1,5 @@
 // The bodies of a sheet: body 0 has the settings and the template, each other one is a record.
-ghost use Rattle.std.specs.Prelude.{◌≡◌, true};
+ghost use Rattle.std.specs.Prelude.{◌≡◌, ◌+◌, ◌≤◌, true, length};
 ghost use Rattle.sheet.specs.Sheets.{is_sheet, contents_end};
 ghost use Rattle.session.specs.Walking.{settings_in, template_in, records_from};
 
@@ -9,7 +9,8 @@ use sheet::{body_count, body_length};
 impl<'a> Sheet<'a> {
     // Where body 0 begins.
     fn contents_end(&self) -> usize
-        ensures { result ≡ contents_end self.now }
+        ensures place { result ≡ contents_end self.now }
+        ensures sheet { is_sheet self.now ≡ true }
     {
         2 + 4 * body_count(self.bytes)
     }
@@ -29,13 +30,19 @@ impl<'a> Sheet<'a> {
         self.bytes[self.contents_end()]
     }
 
-    // The template: the rest of body 0.
-    pub fn template(&self) -> &'a [u8]
+    // Where the template stands: it is the rest of body 0.
+    pub fn template_at(&self) -> (usize, usize)
+        ensures places { result ≡ (contents_end self.now + 1, records_from self.now) }
+        ensures within { (contents_end self.now + 1 ≤ records_from self.now) × (records_from self.now ≤ length self.now) }
+    {
+        (self.contents_end() + 1, self.records_from())
+    }
+
+    pub(crate) fn template(&self) -> &'a [u8]
         ensures { result.now ≡ template_in self.now }
     {
         let bytes = self.bytes;
-        let from = self.contents_end() + 1;
-        let to = self.records_from();
+        let (from, to) = self.template_at();
         &bytes[from..to]
     }
 }

@@ -5,9 +5,8 @@ ghost use Rattle.std.specs.Prelude.{◌≡◌, length};
 ghost use Rattle.packing.specs.Packing.{Packable};
 ghost use Rattle.answer.specs.Answers.{in_room, answer_of, buffer_after};
 ghost use Rattle.outcomes.specs.Program.{session_entry};
-ghost use Rattle.std.specs.Bool.{then_some};
 ghost use Rattle.sheet.specs.Sheets.{is_sheet};
-ghost use Rattle.session.specs.Walking.{records_of, Served, lines_by};
+ghost use Rattle.session.specs.Walking.{sheet_or, records_of, lines_by};
 
 use answer::Reading;
 use packing::Answer;
@@ -39,14 +38,14 @@ impl<'a> Model for Sheet<'a> {
     ghost invariant = { λ s. is_sheet s.bytes.now ≡ true };
 }
 
-// The sheet that the bytes d are, if they are one.
-pub fn sheet_in(d: &[u8]) -> Option<Sheet<'_>>
-    ensures { result ≡ then_some (is_sheet d.now) d.now }
+// The sheet that the bytes d are, or refusal 15.
+pub fn sheet_in(d: &[u8]) -> Result<Sheet<'_>, Refusal>
+    ensures { result ≡ sheet_or (is_sheet d.now) d.now }
 {
     if !is_sheet(d) {
-        return None;
+        return Err(Refusal::NotASheet);
     }
-    Some(Sheet { bytes: d })
+    Ok(Sheet { bytes: d })
 }
 
 // The lines of all records of the sheet d, at the front of the lent buffer; or a refusal, and the buffer as it was.
@@ -55,9 +54,7 @@ pub fn session(d: &[u8], out: &mut [u8]) -> Answer
     ensures buffer { out.new ≡ buffer_after out.old (session_entry d.now out.old) }
     ensures packable { Packable result }
 {
-    let Some(sheet) = sheet_in(d) else {
-        return Err(Refusal::NotASheet);
-    };
+    let sheet = sheet_in(d)?;
     let mut cells = [EMPTY; 64];
     let n = sheet.open(&mut cells)?;
     all_records(&sheet, &sheet.reading(&cells, n), out)
@@ -65,7 +62,6 @@ pub fn session(d: &[u8], out: &mut [u8]) -> Answer
 
 // The lines are measured first: where there is no room for all of them, none is written.
 fn all_records(sheet: &Sheet<'_>, reading: &Reading<'_>, out: &mut [u8]) -> Answer
-    requires { Served reading.now (records_of sheet.now) }
     ensures answer { result ≡ answer_of (in_room (length out.old) (lines_by reading.now (records_of sheet.now))) }
     ensures buffer { out.new ≡ buffer_after out.old (in_room (length out.old) (lines_by reading.now (records_of sheet.now))) }
     ensures packable { Packable result }

@@ -1,12 +1,13 @@
 // Reading the template of a sheet, and what the lines of its records are made by.
 ghost use Rattle.std.specs.Prelude.{◌≡◌, ◌≤◌, length};
-ghost use Rattle.session.specs.Walking.{opening, tell_opened, OpenedKeeps, Ready, Reads};
+ghost use Rattle.answer.specs.Maker.{IsRead};
+ghost use Rattle.session.specs.Walking.{opening, tell_opened, OpenedKeeps, template_in, maker_in};
 
 use super::Sheet;
 use answer::Reading;
 use refusals::Refusal;
 use segments::Cell;
-use settings::{edition_of, form_of, settings_of};
+use settings::edition_of;
 use template::parse;
 
 impl<'a> Sheet<'a> {
@@ -21,16 +22,9 @@ impl<'a> Sheet<'a> {
 
     // What the lines of the records are made by: the template was read into n segments.
     pub fn reading(&self, cells: &'a [Cell], n: usize) -> Reading<'a>
-        requires { Ready self.now cells.now n }
-        ensures { Reads self.now cells.now n result }
+        requires { IsRead (template_in self.now) cells.now n }
+        ensures { result ≡ maker_in self.now cells.now n }
     {
-        let settings = self.settings();
-        Reading {
-            form: form_of(settings),
-            settings: settings_of(settings),
-            template: self.template(),
-            cells,
-            count: n,
-        }
+        Reading::new(self.settings(), self.template(), cells, n)
     }
 }

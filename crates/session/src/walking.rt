@@ -1,16 +1,14 @@
 // The walk along the records of an open sheet.
 ghost use Rattle.std.specs.Prelude.{◌≡◌, ◌≤◌, ◌<◌, ◌^◌, length};
 ghost use Rattle.buffer.specs.Buffer.{put_at};
-ghost use Rattle.session.specs.Walking.{records_of, Served, lines_by};
+ghost use Rattle.session.specs.Walking.{records_of, lines_by};
 
 use super::Sheet;
 use answer::Reading;
 use outcomes::{outcome_length, put_outcome};
 
-// How many bytes are written for all records: at most 65,535 lines of at most 65,537 bytes. It is apart from `put_records`, as in outcomes (d). A sheet and its
-// reading stay two parameters (d): a reading has no invariant, and what is asked of both is one word, `Served`.
+// How many bytes are written for all records: at most 65,535 lines of at most 65,537 bytes. It is apart from `put_records`, as in outcomes (d).
 pub(crate) fn records_length(sheet: &Sheet<'_>, reading: &Reading<'_>) -> usize
-    requires { Served reading.now (records_of sheet.now) }
     ensures { (result ≡ length (lines_by reading.now (records_of sheet.now))) × (result < 2 ^ 56) }
 {
     let mut sum = 0;
@@ -22,8 +20,7 @@ pub(crate) fn records_length(sheet: &Sheet<'_>, reading: &Reading<'_>) -> usize
 
 // Writes them at the front of a buffer that holds them.
 pub(crate) fn put_records(sheet: &Sheet<'_>, reading: &Reading<'_>, out: &mut [u8])
-    requires served { Served reading.now (records_of sheet.now) }
-    requires n_in_bounds { length (lines_by reading.now (records_of sheet.now)) ≤ length out.old }
+    requires { length (lines_by reading.now (records_of sheet.now)) ≤ length out.old }
     ensures { out.new ≡ put_at out.old 0 (lines_by reading.now (records_of sheet.now)) }
 {
     let mut at = 0;

@@ -1,9 +1,8 @@
-// Whether the letters at a place are a given word, and which word of a table they are. Text and places stay parameters of their own (d): who asks has
-// the template, and the places that it answers are the template's.
+// Whether letters are a given word, and which word of a table they are. No answer here is a place of the template, so the letters alone are lent.
 #![tactic(auto)]
 
-ghost use Rattle.std.specs.Prelude.{◌≡◌, ◌-◌, ◌≤◌, length, replicate};
-ghost use Rattle.buffer.specs.Bytes.{byte, part, same};
+ghost use Rattle.std.specs.Prelude.{◌≡◌, length, replicate};
+ghost use Rattle.buffer.specs.Bytes.{byte, same};
 ghost use Rattle.spelling.specs.Tables.{compared_byte, compared, words_in, find_word};
 
 // What is compared of the byte b: `Color::from_str` lowers what it is given, the crate's other words are compared as they are.
@@ -24,21 +23,12 @@ fn is_word(w: &[u8], word: &[u8], caseless: bool) -> bool
             .all(|(x, b)| *x == seen_byte(*b, caseless))
 }
 
-// The index of the first word of a table that is t[from..to]. A table is the words' lengths, and their letters one after the other: where both are
+// The index of the first word of a table that is `word`. A table is the words' lengths, and their letters one after the other: where both are
 // constants, the compiler makes comparisons with constants of the loop, which it doesn't where a length stands before each word (b). A length that runs past
 // the letters is cut to their end, so that any two lists are a table.
-pub fn word_index(
-    lengths: &[u8],
-    letters: &[u8],
-    t: &[u8],
-    from: usize,
-    to: usize,
-    caseless: bool,
-) -> Option<usize>
-    requires { (from ≤ to) × (to ≤ length t.now) }
-    ensures { result ≡ find_word (words_in lengths.now letters.now) (compared caseless (part from to t.now)) }
+pub fn word_index(lengths: &[u8], letters: &[u8], word: &[u8], caseless: bool) -> Option<usize>
+    ensures { result ≡ find_word (words_in lengths.now letters.now) (compared caseless word.now) }
 {
-    let word = &t[from..to];
     let mut rest = letters;
     for (index, n) in lengths.iter().enumerate() {
         let (w, others) = rest.split_at(rest.len().min(usize::from(*n)));
@@ -50,10 +40,9 @@ pub fn word_index(
     None
 }
 
-// Whether t[from..to] is `f` and nothing else: the crate's `"f".repeat(s.len())`.
-pub fn is_repeated_f(t: &[u8], from: usize, to: usize) -> bool
-    requires { (from ≤ to) × (to ≤ length t.now) }
-    ensures { result ≡ same (replicate (to - from) (byte "f")) (part from to t.now) }
+// Whether `word` is `f` and nothing else: the crate's `"f".repeat(s.len())`.
+pub fn is_repeated_f(word: &[u8]) -> bool
+    ensures { result ≡ same (replicate (length word.now) (byte "f")) word.now }
 {
-    t[from..to].iter().all(|b| *b == b'f')
+    word.iter().all(|b| *b == b'f')
 }

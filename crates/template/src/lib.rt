@@ -13,9 +13,9 @@ ghost use Rattle.template.specs.Parsing.{tell_parsed, judged_by, ReadKeeps, Pars
 use lists::parse_string_segment;
 use reader::parse_argument;
 use refusals::Refusal;
-use segments::{Cell, Wanted};
+use segments::Cell;
 use unused::unused_in;
-use words::Read;
+use words::{LogMetadata, Read};
 
 // The rules that a template is read by: the strict ones refuse what the first read and leave something of it unused.
 #[derive(Clone, Copy)]
@@ -49,19 +49,20 @@ fn parse_top(t: &[u8], from: usize, cells: &mut [Cell], n: usize) -> Read<usize>
     parse_string_segment(t, from, t.len(), n, cells, n)
 }
 
-#[tactic(auto, unfolding(crate::specs::Template::with_message))]
+#[tactic(auto, using(naming::proofs::Wanting::message_named), unfolding(crate::specs::Template::with_message))]
 fn format_contains_log_specifier(cells: &[Cell], n: usize) -> Result<usize, Refusal>
     requires { (64 ≤ length cells.now) × (n ≤ 64) }
     ensures cells_value { tell_parsed result cells.now ≡ with_message (chain_at cells.now n) }
     ensures keeps { ReadKeeps cells.now n → ParsedKeeps cells.now result }
 {
-    if naming::names(cells, Wanted::Message, n) {
+    if naming::names(cells, LogMetadata::Log, n) {
         return Ok(n);
     }
     Err(Refusal::NoMessage)
 }
 
-// Segments as long as they fit; the rest is dropped. It is no `for`: each segment says where the next one may begin (d).
+// Segments as long as they fit; the rest is dropped. It is no `for` (d): each may refuse, stores in the lent pool, and says where
+// the next one may begin.
 fn parse_all(t: &[u8], cells: &mut [Cell]) -> Result<usize, Refusal>
     requires { 64 ≤ length cells.old }
     ensures cells_after { tell_parsed result cells.new ≡ top_level t.now }
@@ -161,10 +162,10 @@ pub fn parse(edition: Edition, t: &[u8], cells: &mut [Cell]) -> Result<usize, Re
 }
 
 // Whether the segments name the time.
-#[tactic(auto, unfolding(crate::specs::Template::names_timestamp))]
+#[tactic(auto, using(naming::proofs::Wanting::time_named), unfolding(crate::specs::Template::names_timestamp))]
 pub fn format_has_timestamp(cells: &[Cell], n: usize) -> bool
     requires { (64 ≤ length cells.now) × (n ≤ 64) }
     ensures { result ≡ names_timestamp (chain_at cells.now n) }
 {
-    naming::names(cells, Wanted::Time, n)
+    naming::names(cells, LogMetadata::Timestamp, n)
 }

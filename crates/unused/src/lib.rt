@@ -1,6 +1,6 @@
 // What a template that was read leaves unused: a second look at it, which asks again what fits where, and makes no segments. So it needs no pool, and the
 // reading itself is no slower for it.
-// (A template and two places stay three parameters, as in endings. The walks are no `for`: what is looked at says where the next look begins (d).)
+// (A template and two places stay three parameters, as in endings, and `even` a `bool`, as in reader (a). The walks are no `for`: what is looked at says where the next look begins (d).)
 #![tactic(auto)]
 
 ghost use Rattle.std.specs.Prelude.{◌≡◌, not, ◌+◌, ◌≤◌, length};

@@ -9,8 +9,8 @@ use super::windows::{due, flaws, flaws_of_two};
 // Bytes in a block. Where accents are few a longer one would seldom be ASCII as a whole; a shorter one has too little to do.
 const BLOCK: usize = 32;
 
-// Whether a text that is not broken up to `from` is UTF-8. The last block overlaps the one before it, so that it is whole, too;
-// a `for` would meet a shorter one (d).
+// Whether a text that is not broken up to `from` is UTF-8. The last block overlaps the one before it, so that it is whole, too.
+// A `for` by steps would leave that one to a call of its own behind the loop (d).
 pub(crate) fn sound_from(s: &[u8], from: usize) -> bool
     requires { (35 ≤ length s.now) × (3 ≤ from) × (from ≤ length s.now) × Told s.now from }
     ensures { result ≡ valid s.now }

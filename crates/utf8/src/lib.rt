@@ -29,7 +29,7 @@ pub fn is_ascii(s: &[u8]) -> bool
     greatest(s) < 0x80
 }
 
-// Whether `s` is UTF-8.
+// Whether `s` is UTF-8. By blocks and not by std's `from_utf8` (b): Rust's, which goes by characters, takes 1.43 to 5.33 times as long (docs/SPEED.md).
 pub fn is_utf8(s: &[u8]) -> bool
     ensures { result ≡ valid s.now }
 {

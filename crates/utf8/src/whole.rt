@@ -7,7 +7,7 @@ use super::ones::goes_on;
 use super::windows::{least_after, most_after};
 
 // The end of the characters from `from` on, the last of them the first that ends at `to` or after it, unless the text breaks before.
-// It is no `for`: each character says where the next one begins (d).
+// It is no `for` (d): this walk alone goes by characters, and an iterator would hold it as its `next`.
 pub(crate) fn characters_to(s: &[u8], from: usize, to: usize) -> Option<usize>
     requires { (from < to) × (to ≤ length s.now) × (reached s.now from ≡ awaited []) }
     ensures { EndsBy s.now to result }

@@ -52,7 +52,7 @@ fn write_visible<S: Sink>(s: &[u8], mut sink: S, out: &mut [u8]) -> S
     ensures buffer { out.new ≡ S.left sink out.old (visible s.now) }
 {
     let mut rest = s;
-    // no `for` over places (d): each stretch says where the next one begins
+    // no `for` over places (d): this walk alone goes by stretches, and an iterator would hold it as its `next`
     while !rest.is_empty() {
         let n = stretch_len(rest);
         sink = sink.take(&rest[..n], out);

@@ -6,7 +6,7 @@ ghost use Rattle.widths.specs.Fitting.{Fits};
 use super::Wides;
 use super::counting::advance;
 
-// Where each range of wide characters begins, and the code point after it, by turns. `oracle/wide` makes it.
+// Where each range of wide characters begins, and the code point after it, by turns, as `points::search` takes it (a). `oracle/wide` makes it.
 pub(crate) static ENDS: [u32; 246] = [
     0x1100, 0x1160, 0x231A, 0x231C, 0x2329, 0x232B, 0x23E9, 0x23ED, 0x23F0, 0x23F1, 0x23F3, 0x23F4,
     0x25FD, 0x25FF, 0x2614, 0x2616, 0x2630, 0x2638, 0x2648, 0x2654, 0x267F, 0x2680, 0x268A, 0x2690,

@@ -1,8 +1,9 @@
 -- Laws of parameters: words of several tables, widths. Assumes nothing.
-use Prim.Native.Nat.{ℕ, ◌+◌, ◌≤◌, ◌<◌, min}
+use Prim.Native.Nat.{ℕ, ◌+◌, ◌≤◌, ◌<◌}
 use mathlib.Core.Path.{◌≡◌, refl, sym, ap, ◌∙◌}
 use mathlib.Core.List.{List, [], ◌∷◌}
 use native.Mathlib.Omega.{arith}
+use lib.Dec.{leb}
 use lib.ListN.{length, get_or}
 use borrow.Author.Tests.{lt-ltb, le-ltb, le-leb, lt-leb}
 use Rattle.buffer.specs.Bytes.{part, same}
@@ -15,10 +16,11 @@ use Rattle.words.specs.declared.Padding.{Padding}
 use Rattle.words.specs.declared.Parameter.{Parameter}
 use Rattle.runs.specs.Runs.{decimal, digit, lowered, letters_end, digits_end}
 use Rattle.words.specs.Trying.{fit, misfit, refused}
-use Rattle.std.specs.Prelude.{Some}
+use Rattle.std.specs.Bool.{then_some}
+use Rattle.std.specs.Prelude.{Some, None}
 use Rattle.words.specs.Within.{found}
 use Rattle.words.specs.Words.{sense, either, sensed, level_colours, colours, styles, parameter_of, name, alignments, padding_of, width_of, digits_to, aligned, byte_at, width_at}
-use Rattle.runs.proofs.Counting.{capped_fits, capped_over}
+use Rattle.runs.proofs.Counting.{number_tells}
 use Rattle.runs.proofs.Matching.{part_none}
 use Rattle.buffer.proofs.Tables.{lookup_on, lookup_none}
 use Rattle.words.proofs.Naming.{name_sensed, one_other}
@@ -72,18 +74,18 @@ module _ (a : Alignment) (t : List ℕ) (i e j : ℕ) (q : j ≡ digits_end t i 
   unfolding digits_to
   digits_read h = ap (digits_to a t i) (sym q) ∙ rw (lt-ltb i j h, digits_to)
 
-  pub digits_wide : i < j → (n : ℕ) → n ≡ min 513 (decimal 0 (part i j t)) → 512 < n → digits_to a t i (digits_end t i e) ≡ refused Refusal.TooWide
+  pub digits_wide : i < j → None ≡ then_some (leb (decimal 0 (part i j t)) 512) (decimal 0 (part i j t)) → digits_to a t i (digits_end t i e) ≡ refused Refusal.TooWide
   unfolding width_of
-  digits_wide h n c g = digits_read h ∙ rw (lt-leb (decimal 0 (part i j t)) 512 (capped_over n _ c g), width_of)
+  digits_wide h c = digits_read h ∙ rw (lt-leb (decimal 0 (part i j t)) 512 (number_tells _ _ None c), width_of)
 
-  pub digits_fit : i < j → j ≤ length t → (n : ℕ) → n ≡ min 513 (decimal 0 (part i j t)) → n ≤ 512
+  pub digits_fit : i < j → j ≤ length t → (n : ℕ) → Some n ≡ then_some (leb (decimal 0 (part i j t)) 512) (decimal 0 (part i j t))
       → (z : Padding) → z ≡ padding_of (get_or t i 0 ∷ []) → digits_to a t i (digits_end t i e) ≡ fit (Parameter.WidthAndAlignment n z a) j
   unfolding width_of
-  digits_fit h l n c g z r =
-      let d : decimal 0 (part i j t) ≡ n = capped_fits n _ c g in
+  digits_fit h l n c z r =
+      let d = number_tells _ _ (Some n) c in
       digits_read h
       ∙ rw (le-leb (decimal 0 (part i j t)) 512 (omega arith), width_of)
-      (ap (λ (m : ℕ). fit (Parameter.WidthAndAlignment m (padding_of (part i j t)) a) j) d
+      (ap (λ (m : ℕ). fit (Parameter.WidthAndAlignment m (padding_of (part i j t)) a) j) d.0
       ∙ ap (λ (y : Padding). fit (Parameter.WidthAndAlignment n y a) j) (ap padding_of (part_step t i j h l) ∙ padding_first _ _ ∙ sym r))
 
 -- ---- alignments: the byte at i

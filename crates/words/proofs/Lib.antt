@@ -4,3 +4,4 @@ pub mod Asking
 pub mod Attempts
 pub mod Listing
 pub mod Naming
+pub mod Spelled

@@ -55,10 +55,10 @@ too_many (suc n) g = rw (lt-leb (suc n) 255 g, count_of_f)
 
 -- ---- specifiers of any number of letters but one
 
-module _ (w : List ℕ) (n : ℕ) (l : length w ≡ n) (h : n ≡ 1 → ⊥) where
+module _ (w : List ℕ) (h : length w ≡ 1 → ⊥) where
   unlisted : lookup specifiers w ≡ none
   unlisted =
-      let no : 1 ≡ length w → ⊥ = λ q. h (sym l ∙ sym q) in
+      let no : 1 ≡ length w → ⊥ = λ q. h (sym q) in
       lookup_on _ _ w (same_lengths _ w no)
       ∙ lookup_on _ _ w (same_lengths _ w no)
       ∙ lookup_on _ _ w (same_lengths _ w no)
@@ -73,19 +73,19 @@ module _ (w : List ℕ) (n : ℕ) (l : length w ≡ n) (h : n ≡ 1 → ⊥) whe
   unfolding specifier_of or_repeated_f
   longer = ap (or_repeated_f w) unlisted
 
-  pub other_name : same (replicate n 0x66) w ≡ false → specifier_of w ≡ nothing
+  pub other_name : same (replicate (length w) 0x66) w ≡ false → specifier_of w ≡ nothing
   unfolding repeated_f
-  other_name b = longer ∙ rw (l, b, repeated_f)
+  other_name b = longer ∙ rw (b, repeated_f)
 
-  repeated_f_lem : same (replicate n 0x66) w ≡ true → specifier_of w ≡ count_of_f n
+  repeated_f_lem : same (replicate (length w) 0x66) w ≡ true → specifier_of w ≡ count_of_f (length w)
   unfolding repeated_f
-  repeated_f_lem b = longer ∙ rw (l, b, repeated_f) (ap count_of_f l)
+  repeated_f_lem b = longer ∙ rw (b, repeated_f)
 
-  pub file_name_lem : same (replicate n 0x66) w ≡ true → 1 ≤ n → n ≤ 255 → specifier_of w ≡ stands_for (FileName n)
-  file_name_lem b g k = repeated_f_lem b ∙ allowed n g k
+  pub file_name_lem : same (replicate (length w) 0x66) w ≡ true → 1 ≤ length w → length w ≤ 255 → specifier_of w ≡ stands_for (FileName (length w))
+  file_name_lem b g k = repeated_f_lem b ∙ allowed (length w) g k
 
-  pub too_many_f : same (replicate n 0x66) w ≡ true → 255 < n → specifier_of w ≡ not_allowed Refusal.TooManyF
-  too_many_f b g = repeated_f_lem b ∙ too_many n g
+  pub too_many_f : same (replicate (length w) 0x66) w ≡ true → 255 < length w → specifier_of w ≡ not_allowed Refusal.TooManyF
+  too_many_f b g = repeated_f_lem b ∙ too_many (length w) g
 
 pub no_name : (j : ℕ) (t : List ℕ) (i e : ℕ) → e ≤ i → sensed j (specifier_of (part i e t)) ≡ misfit
 unfolding specifier_of or_repeated_f repeated_f count_of_f lookup same sensed

@@ -10,7 +10,7 @@ ghost use Rattle.words.specs.Words.{specifier_of, parameter_of, either, level_co
 
 use super::{Alignment, Color, LogColor, LogMetadata, Padding, Parameter, Read, Style};
 use refusals::Refusal;
-use runs::numbers::width;
+use runs::numbers::number_up_to;
 use runs::{digits_end, letters_end};
 use spelling::{is_repeated_f, word_index};
 
@@ -54,7 +54,7 @@ fn file_name(t: &[u8], from: usize, to: usize) -> Read<LogMetadata>
     ensures result_value { told_read result ≡ sensed to (specifier_of (part from to t.now)) }
     ensures within { MetadataWithin from to result }
 {
-    if to <= from || !is_repeated_f(t, from, to) {
+    if to <= from || !is_repeated_f(&t[from..to]) {
         return Ok(None);
     }
     let Ok(n) = u8::try_from(to - from) else {
@@ -63,21 +63,22 @@ fn file_name(t: &[u8], from: usize, to: usize) -> Read<LogMetadata>
     Ok(Some((to, LogMetadata::FileName(n))))
 }
 
-// The colour that the letters t[from..to] ask for.
-fn parse_color(t: &[u8], from: usize, to: usize) -> Option<LogColor>
-    requires { (from ≤ to) × (to ≤ length t.now) }
-    ensures { found Parameter.Color result ≡ either (lookup level_colours (part from to t.now)) (lookup colours (lowered (part from to t.now))) }
+// The colour that a word asks for.
+#[tactic(auto, using(crate::proofs::Spelled::levels_tell), unfolding(crate::specs::Within::found))]
+fn parse_color(word: &[u8]) -> Option<LogColor>
+    ensures { found Parameter.Color result ≡ either (lookup level_colours word.now) (lookup colours (lowered word.now)) }
 {
-    match word_index(&[8, 6], b"severitywerror", t, from, to, false) {
-        Some(i) => Some([LogColor::SeverityLevel, LogColor::WarnError][i]),
-        None => Some(LogColor::Color(color_from_str(t, from, to)?)),
+    match word {
+        b"severity" => Some(LogColor::SeverityLevel),
+        b"werror" => Some(LogColor::WarnError),
+        _ => Some(LogColor::Color(color_from_str(word)?)),
     }
 }
 
-// The crate's `colored::Color::from_str`, less the colours that its names cannot say: a name is letters only.
-fn color_from_str(t: &[u8], from: usize, to: usize) -> Option<Color>
-    requires { (from ≤ to) × (to ≤ length t.now) }
-    ensures { found colour result ≡ lookup colours (lowered (part from to t.now)) }
+// The crate's `colored::Color::from_str`, less the colours that its names cannot say: a name is letters only. The names stand in a table (d): they are
+// compared in any case, and a `match` would want a lowered copy of the word first.
+fn color_from_str(word: &[u8]) -> Option<Color>
+    ensures { found colour result ≡ lookup colours (lowered word.now) }
 {
     const COLORS: [Color; 9] = [
         Color::Black,
@@ -92,25 +93,23 @@ fn color_from_str(t: &[u8], from: usize, to: usize) -> Option<Color>
     ];
     let lengths = [5, 3, 5, 6, 4, 7, 6, 4, 5];
     let letters = b"blackredgreenyellowbluemagentapurplecyanwhite";
-    let i = word_index(&lengths, letters, t, from, to, true)?;
+    let i = word_index(&lengths, letters, word, true)?;
     Some(COLORS[i])
 }
 
-// The style that the letters t[from..to] ask for.
-fn parse_style(t: &[u8], from: usize, to: usize) -> Option<Style>
-    requires { (from ≤ to) × (to ≤ length t.now) }
-    ensures { found Parameter.Style result ≡ lookup styles (part from to t.now) }
+// The style that a word asks for.
+#[tactic(auto, using(crate::proofs::Spelled::styles_tell), unfolding(crate::specs::Within::found))]
+fn parse_style(word: &[u8]) -> Option<Style>
+    ensures { found Parameter.Style result ≡ lookup styles word.now }
 {
-    const STYLES: [Style; 5] = [
-        Style::Bold,
-        Style::Italic,
-        Style::Underline,
-        Style::Strike,
-        Style::Dimmed,
-    ];
-    let letters = b"bolditalicunderlinestrikedimmed";
-    let i = word_index(&[4, 6, 9, 6, 6], letters, t, from, to, false)?;
-    Some(STYLES[i])
+    match word {
+        b"bold" => Some(Style::Bold),
+        b"italic" => Some(Style::Italic),
+        b"underline" => Some(Style::Underline),
+        b"strike" => Some(Style::Strike),
+        b"dimmed" => Some(Style::Dimmed),
+        _ => None,
+    }
 }
 
 #[tactic(auto, unfolding(crate::specs::Words::padding_of))]
@@ -125,7 +124,7 @@ fn padding(b: u8) -> Padding
 }
 
 // The widest width that may be asked for.
-const WIDEST: usize = 512;
+const WIDEST: u16 = 512;
 
 // The width that the digits at `from` say.
 fn parse_digits(t: &[u8], from: usize, to: usize, alignment: Alignment) -> Read<Parameter>
@@ -137,12 +136,11 @@ fn parse_digits(t: &[u8], from: usize, to: usize, alignment: Alignment) -> Read<
     if j <= from {
         return Ok(None);
     }
-    let n = width(t, from, j);
-    if WIDEST < n {
+    let Some(n) = number_up_to(WIDEST, &t[from..j]) else {
         return Err(Refusal::TooWide);
-    }
+    };
     let z = padding(t[from]);
-    Ok(Some((j, Parameter::WidthAndAlignment(n as u16, z, alignment))))
+    Ok(Some((j, Parameter::WidthAndAlignment(n, z, alignment))))
 }
 
 // Left alignment is the default.
@@ -172,9 +170,10 @@ fn parse_name(t: &[u8], from: usize, to: usize) -> Option<(usize, Parameter)>
     if j <= from {
         return None;
     }
-    match parse_color(t, from, j) {
+    let word = &t[from..j];
+    match parse_color(word) {
         Some(color) => Some((j, Parameter::Color(color))),
-        None => Some((j, Parameter::Style(parse_style(t, from, j)?))),
+        None => Some((j, Parameter::Style(parse_style(word)?))),
     }
 }
 

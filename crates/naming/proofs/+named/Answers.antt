@@ -10,7 +10,7 @@ pub named_at-returns-in-Group : goal.named_at-returns-in-Group
 named_at-returns-in-Group t c = named_group _ _ _ _ c.kind_at.ensures c.in-Group.is _ c.last_at.ensures.0 _ c.names.ensures
 
 pub named_at-returns-in-Specifier : goal.named_at-returns-in-Specifier
-named_at-returns-in-Specifier t c = named_specifier _ _ _ _ c.kind_at.ensures _ c.in-Specifier.is _ c.is_wanted.ensures
+named_at-returns-in-Specifier t c = named_specifier _ _ _ _ c.kind_at.ensures _ c.in-Specifier.is _ c.eq.ensures
 
 pub names-returns-then-named_at : goal.names-returns-then-named_at
 names-returns-then-named_at t c = named_here _ _ _ (omega arith) _ c.named_at.ensures c.if-named_at.true ∙ c.loop-j.invariant.1

@@ -1,6 +1,7 @@
 -- The members that are left name it just where all of them do. A group's members stand below the group, so twice the place falls.
 use Rattle.std.proofs.Common.{◌≡◌, ◌≤◌, ◌+◌, ◌*◌}
-use Rattle.segments.specs.Segments.{is_wanted, named_among}
+use Rattle.naming.specs.Wanted.{is_wanted}
+use Rattle.segments.specs.Segments.{named_among}
 use Rattle.segments.specs.Pool.{chain_at}
 use Rattle.naming.proofs.+named.Given as goal
 

@@ -2,12 +2,12 @@
 use Rattle.std.proofs.Common.{ℕ, ◌+◌, ◌-◌, ◌≤◌, ◌≡◌, take, length, not, refl, sym, ap, ◌∙◌, arith}
 use Rattle.braces.specs.Within.{ClosingWithin}
 use Rattle.building.proofs.Answers.{handed_on}
-use Rattle.building.proofs.Bounds.{keeps_after, fitted_moved}
+use Rattle.building.proofs.Bounds.{keeps_after, fitted_moved, room_after}
 use Rattle.building.specs.Reading.{brace_in, item_in, Content, inside_at, item_at, group_at, brace_at, brace_to, piece_at, no_group, Group, closed, separator}
 use Rattle.building.specs.Told.{tell_items, tell_pieces, plain_piece, built_of}
 use Rattle.lists.proofs.Grouped.{begins_kept, group_start, group_closes, group_refuses, piece_past, piece_is, pieces_same, pieces_after, pieces_more, pieces_room, ready_after, member_told, member_kept, pieces_linked}
 use Rattle.lists.proofs.Itemed.{item_is, next_told, next_kept, items_room, items_same, items_after}
-use Rattle.reader.proofs.Contained.{brace_is, Looked, brace_read, no_brace, stood, built_last, content_is, content_begins, begins_items}
+use Rattle.reader.proofs.Contained.{kept_on, brace_is, Looked, brace_read, no_brace, stood, built_last, content_is, content_begins, begins_items}
 use Rattle.runs.proofs.Running.{stands_before}
 use Rattle.segments.proofs.Fronts.{front_less}
 use Rattle.words.proofs.Attempts.{further_item, further_ends, further_refused, further_none, repeated_fit, repeated_misfit, repeated_refused}
@@ -76,7 +76,14 @@ parse_log_segment-returns-then-left-eq0-clause-cells_after t c = rw c.if-left-eq
 pub parse_log_segment-parse_item-requires : goal.parse_log_segment-parse_item-requires
 parse_log_segment-parse_item-requires t c =
     let r = c.requires.3 in
-    (omega arith, (omega arith, omega arith, omega arith, omega arith, omega arith, begins_items _ _ _ _ _ c.no_parts.ensures r))
+    (omega arith, (omega arith, omega arith, omega arith, r, (begins_items _ _ 0 _ _ c.no_parts.ensures r).ready))
+
+pub parse_log_segment-further_items-requires : goal.parse_log_segment-further_items-requires
+unfolding Fitting
+parse_log_segment-further_items-requires t c =
+    let r = c.requires.3 in
+    let w = rw c.in-Some.is at (c.in_ok-j.ensures.keeps c.args.n (begins_items _ _ _ _ _ c.no_parts.ensures r)) in
+    (omega arith, (w.1.0, c.requires.1, omega arith, omega arith, (c.args.n, r.linked, w.1.1)))
 
 pub parse_log_segment-returns-in_err-j-clause-cells_after : goal.parse_log_segment-returns-in_err-j-clause-cells_after
 unfolding told listed ◌then◌
@@ -91,42 +98,59 @@ parse_log_segment-returns-in_default-clause-cells_after t c =
 pub parse_log_segment-returns-clause-cells_after : goal.parse_log_segment-returns-clause-cells_after
 unfolding told Fitting listed ◌then◌
 parse_log_segment-returns-clause-cells_after t c =
-    let w = rw c.in-Some.is at c.in_ok-j.ensures.keeps in
+    let w = rw c.in-Some.is at (c.in_ok-j.ensures.keeps c.args.n (begins_items _ _ _ _ _ c.no_parts.ensures c.requires.3)) in
     rw (content_is _ _ _ _ _ _ c.if-left-eq0.false _ (content_begins _ _ c.args.cells.now c.no_parts.ensures), ← c.in_ok-j.ensures.cells_after, c.in-Some.is)
     (c.further_items.ensures.by_index _ (omega arith))
 
+pub parse_log_segment-returns-clause-keeps : goal.parse_log_segment-returns-clause-keeps
+unfolding Fitting
+parse_log_segment-returns-clause-keeps t c =
+    let w = rw c.in-Some.is at (c.in_ok-j.ensures.keeps c.args.n (begins_items _ _ _ _ _ c.no_parts.ensures c.requires.3)) in
+    kept_on _ _ _ _ _ _ _ _ _ _ _ w.0 (omega arith) c.parse_item.ensures.front (c.further_items.ensures.keeps _ w.1.1)
+
 -- ---- the items after the first
+
+pub further_items-loop-cells-init : goal.further_items-loop-cells-init
+further_items-loop-cells-init t c = (omega arith, λ n h. (refl, h), λ m h. (m, h, refl))
 
 pub further_items-parse_item-requires : goal.further_items-parse_item-requires
 further_items-parse_item-requires t c =
     let b = stands_before _ _ _ _ (sym c.loop-cells-test.ensures) in
-    (omega arith, (omega arith, omega arith, omega arith, omega arith, omega arith, c.loop-cells.invariant.2))
+    let q = c.requires.4 in let k = c.loop-cells.invariant.1 q.0 q.2 in
+    (omega arith, (omega arith, omega arith, omega arith, items_room _ _ _ _ _ _ k.1 q.1 (omega arith) refl, k.1.ready))
 
 pub further_items-returns-in_err-k-clause-by_index : goal.further_items-returns-in_err-k-clause-by_index
 unfolding told ◌then◌
 further_items-returns-in_err-k-clause-by_index t c = λ m h.
-    let v = c.loop-cells.invariant.3 m h in
+    let v = c.loop-cells.invariant.2 m h in
     let s = stood _ _ c.separator_of-separator.ensures _ _ _ _ _ c.stands_at.ensures c.loop-cells-test.true in
     let w = sym {b = item_in c.args.left c.args.even c.args.t.now c.args.to (c.loop-cells.j + 1) (tell_items c.loop-cells.c c.loop-cells.cells)} c.in_err-k.ensures.cells_after in
     rw (handed_on _ _ c.from_residual.ensures.1, ← (further_refused _ _ _ _ _ _ _ v.0 v.2 s _ w v.1))
 
 pub further_items-returns-in_err-k-clause-keeps : goal.further_items-returns-in_err-k-clause-keeps
 unfolding Fitting
-further_items-returns-in_err-k-clause-keeps t c =
-    rw (handed_on _ _ c.from_residual.ensures.1)
-    (record { front = front_less _ _ _ c.parse_item.ensures.front _ c.loop-cells.invariant.2.least ∙ c.loop-cells.invariant.1; within = tt })
+further_items-returns-in_err-k-clause-keeps t c = λ n h.
+    let k = c.loop-cells.invariant.1 n h in
+    rw (handed_on _ _ c.from_residual.ensures.1) (record { front = front_less _ _ _ c.parse_item.ensures.front _ k.1.least ∙ k.0; within = tt })
+
+pub further_items-loop-cells-smaller : goal.further_items-loop-cells-smaller
+unfolding Fitting
+further_items-loop-cells-smaller t c =
+    let q = c.requires.4 in let w = rw c.in-Some.is at (c.in_ok-k.ensures.keeps q.0 (c.loop-cells.invariant.1 q.0 q.2).1) in
+    omega arith
 
 pub further_items-loop-cells-preserved : goal.further_items-loop-cells-preserved
 unfolding told Fitting
 further_items-loop-cells-preserved t c =
-    let w = rw c.in-Some.is at c.in_ok-k.ensures.keeps in
+    let q = c.requires.4 in let w = rw c.in-Some.is at (c.in_ok-k.ensures.keeps q.0 (c.loop-cells.invariant.1 q.0 q.2).1) in
     let r = rw c.in-Some.is at c.in_ok-k.ensures.cells_after in
     let s = stood _ _ c.separator_of-separator.ensures _ _ _ _ _ c.stands_at.ensures c.loop-cells-test.true in (
       omega arith,
-      front_less _ _ _ c.parse_item.ensures.front _ c.loop-cells.invariant.2.least ∙ c.loop-cells.invariant.1,
-      w.1.1,
+      λ n h.
+          let k = c.loop-cells.invariant.1 n h in
+          let v = rw c.in-Some.is at (c.in_ok-k.ensures.keeps n k.1) in (front_less _ _ _ c.parse_item.ensures.front _ k.1.least ∙ k.0, v.1.1),
       λ m h.
-          let v = c.loop-cells.invariant.3 m h in further_item _ _ _ _ _ _ _ v.0 v.2 s _ _ (sym r) w.0 v.1,
+          let v = c.loop-cells.invariant.2 m h in further_item _ _ _ _ _ _ _ v.0 v.2 s _ _ (sym r) w.0 v.1,
     )
 
 -- where the loop ends, by its test or by an item that doesn't fit
@@ -142,14 +166,14 @@ ended t c = elim c.loop-cells-test.branch [
     ap length w.cells-is,
     ap (take c.loop-cells.c.made) w.cells-is,
     λ m h.
-        let v = c.loop-cells.invariant.3 m h in
+        let v = c.loop-cells.invariant.2 m h in
         further_none _ _ _ _ _ _ _ v.0 v.2 (stood _ _ c.separator_of-separator.ensures _ _ _ _ _ c.stands_at.ensures w.loop-cells-test.false),
   )
   | further_items-then-loop-cells-test+in_ok-k+in_default w ↦ (
     ap length w.cells-is ∙ w.parse_item.auto.cells,
     ap (take c.loop-cells.c.made) w.cells-is ∙ w.parse_item.ensures.front,
     λ m h.
-        let v = c.loop-cells.invariant.3 m h in
+        let v = c.loop-cells.invariant.2 m h in
         further_ends _ _ _ _ _ _ _ v.0 v.2 (stood _ _ c.separator_of-separator.ensures _ _ _ _ _ c.stands_at.ensures w.loop-cells-test.true) (sym (rw w.in_default.is at w.in_ok-k.ensures.cells_after)),
   )
 ]
@@ -158,18 +182,21 @@ pub further_items-build_log_segment-requires : goal.further_items-build_log_segm
 further_items-build_log_segment-requires t c =
     let e = ended t (goal.at.further_items-build_log_segment-requires t c).Left-loop-cells in
     let l = e.0 in
-    (items_room _ _ _ _ _ _ c.loop-cells.invariant.2 (omega arith) (omega arith) e.1, c.loop-cells.invariant.2.ready)
+    let q = c.requires.4 in let k = c.loop-cells.invariant.1 q.0 q.2 in
+    (items_room _ _ _ _ _ _ k.1 q.1 (omega arith) e.1, k.1.ready)
 
 pub further_items-returns-clause-by_index : goal.further_items-returns-clause-by_index
 further_items-returns-clause-by_index t c = λ m h.
     let e = ended t (goal.at.further_items-returns-clause-by_index t c).Left-loop-cells in
-    built_last _ _ _ _ (e.2 m h) _ (c.build_log_segment.ensures.cells_after ∙ ap (λ (s : Content). built_of s c.loop-cells.j) (items_same _ _ _ e.1 c.loop-cells.invariant.2.ready))
+    let q = c.requires.4 in let k = c.loop-cells.invariant.1 q.0 q.2 in
+    built_last _ _ _ _ (e.2 m h) _ (c.build_log_segment.ensures.cells_after ∙ ap (λ (s : Content). built_of s c.loop-cells.j) (items_same _ _ _ e.1 k.1.ready))
 
 pub further_items-returns-clause-keeps : goal.further_items-returns-clause-keeps
-further_items-returns-clause-keeps t c =
+further_items-returns-clause-keeps t c = λ n h.
     let e = ended t (goal.at.further_items-returns-clause-keeps t c).Left-loop-cells in
-    keeps_after _ _ _ _ _ _ _ _ _ (front_less _ _ _ e.1 _ c.loop-cells.invariant.2.least ∙ c.loop-cells.invariant.1)
-    (c.build_log_segment.ensures.keeps _ _ _ _ (omega arith) (omega arith) (items_after _ _ _ _ _ _ c.loop-cells.invariant.2 e.1))
+    let k = c.loop-cells.invariant.1 n h in
+    keeps_after _ _ _ _ _ _ _ _ _ (front_less _ _ _ e.1 _ k.1.least ∙ k.0)
+    (c.build_log_segment.ensures.keeps _ _ _ _ (omega arith) (omega arith) (items_after _ _ _ _ _ _ k.1 e.1))
 
 -- ---- an item
 
@@ -181,9 +208,15 @@ pub parse_item-returns-in-Some-clause-cells_after : goal.parse_item-returns-in-S
 unfolding told ◌or_else◌
 parse_item-returns-in-Some-clause-cells_after t c = rw (item_is, ← c.in_ok-plain.ensures.cells_after, c.in-Some.is)
 
+pub parse_item-returns-in-Some-clause-keeps : goal.parse_item-returns-in-Some-clause-keeps
+unfolding Fitting
+parse_item-returns-in-Some-clause-keeps t c = λ n h.
+    let w = rw c.in-Some.is at (c.in_ok-plain.ensures.keeps n _ h) in
+    (omega arith, w.1)
+
 pub parse_item-parse_nested-requires : goal.parse_item-parse_nested-requires
 parse_item-parse_nested-requires t c =
-    (omega arith, (omega arith, omega arith, omega arith, items_room _ _ _ _ _ _ c.requires.5 (omega arith) (omega arith) c.parse_plain_item.ensures.front))
+    (omega arith, (omega arith, omega arith, omega arith, room_after _ _ _ _ c.requires.3 c.parse_plain_item.ensures.front (omega arith)))
 
 pub parse_item-returns-in_err-j-clause-cells_after : goal.parse_item-returns-in_err-j-clause-cells_after
 unfolding told ◌or_else◌ ◌then◌ tell_items
@@ -203,15 +236,20 @@ parse_item-returns-clause-cells_after t c =
 
 pub parse_item-returns-clause-keeps : goal.parse_item-returns-clause-keeps
 unfolding Fitting
-parse_item-returns-clause-keeps t c =
+parse_item-returns-clause-keeps t c = λ n h.
     let w = rw c.in-Some-2.is at c.in_ok-j.ensures.keeps.within in
-    (w.from, (w.end, next_kept _ _ _ _ _ _ _ _ _ _ c.requires.5 w _ c.with_segment.ensures))
+    (w.from, (w.end, next_kept _ _ _ _ _ _ _ _ _ _ h w _ c.with_segment.ensures))
 
 -- ---- a group
 
 pub parse_nested-loop-i-init : goal.parse_nested-loop-i-init
 parse_nested-loop-i-init t c =
     (omega arith, refl, begins_kept _ _ _ _ _ c.no_parts.ensures c.requires.3, (c.args.to - c.args.from, omega arith, group_start _ _ _ _ _ _ c.no_parts.ensures))
+
+pub parse_nested-parse_piece-requires : goal.parse_nested-parse_piece-requires
+parse_nested-parse_piece-requires t c =
+    let p = c.loop-i.invariant.2 in
+    (omega arith, (omega arith, omega arith, omega arith, pieces_linked _ _ _ _ _ p (omega arith) refl, p.ready))
 
 pub parse_nested-returns-in_err-j-clause-cells_after : goal.parse_nested-returns-in_err-j-clause-cells_after
 unfolding told
@@ -226,10 +264,16 @@ parse_nested-returns-in_err-j-clause-keeps t c =
     rw (handed_on _ _ c.from_residual.ensures.1)
     (record { front = front_less _ _ _ c.parse_piece.ensures.front _ (pieces_more _ _ _ _ c.loop-i.invariant.2) ∙ c.loop-i.invariant.1; within = tt })
 
+pub parse_nested-loop-i-smaller : goal.parse_nested-loop-i-smaller
+unfolding Fitting
+parse_nested-loop-i-smaller t c =
+    let w = rw c.in-Some.is at (c.in_ok-j.ensures.keeps _ c.loop-i.invariant.2) in
+    omega arith
+
 pub parse_nested-loop-i-preserved : goal.parse_nested-loop-i-preserved
 unfolding told Fitting
 parse_nested-loop-i-preserved t c =
-    let w = rw c.in-Some.is at c.in_ok-j.ensures.keeps in
+    let w = rw c.in-Some.is at (c.in_ok-j.ensures.keeps _ c.loop-i.invariant.2) in
     let r = rw c.in-Some.is at c.in_ok-j.ensures.cells_after in
     let v = c.loop-i.invariant.3 in
     (omega arith, front_less _ _ _ c.parse_piece.ensures.front _ (pieces_more _ _ _ _ c.loop-i.invariant.2) ∙ c.loop-i.invariant.1, w.1.1, repeated_fit _ _ _ _ _ v.0 v.2 _ _ (sym r) w.0 w.1.0 v.1)
@@ -289,7 +333,7 @@ pub parse_piece-parse_plain_piece-requires : goal.parse_piece-parse_plain_piece-
 parse_piece-parse_plain_piece-requires t c =
     let v = looked t (goal.at.parse_piece-parse_plain_piece-requires t c).Joined-stands_at in
     let l = v.long in
-    (omega arith, omega arith, pieces_linked _ _ _ _ _ c.requires.4 (omega arith) v.keeps.front, ready_after _ _ _ c.requires.4.ready v.keeps.front)
+    (omega arith, omega arith, room_after _ _ _ _ c.requires.3 v.keeps.front (omega arith), ready_after _ _ _ c.requires.4 v.keeps.front)
 
 pub parse_piece-returns-in-Some-clause-cells_after : goal.parse_piece-returns-in-Some-clause-cells_after
 unfolding told Fitting ◌or_else◌ ◌then◌ tell_pieces
@@ -297,25 +341,23 @@ parse_piece-returns-in-Some-clause-cells_after t c =
     let v = looked t (goal.at.parse_piece-returns-in-Some-clause-cells_after t c).Joined-stands_at in
     let w = rw c.in-Some.is at v.keeps.within in
     rw (piece_is, ← v.told, c.in-Some.is)
-    (ap (λ (z : Group). fit z c.in-Some.j) (member_told _ _ _ _ _ c.args.g _ _ c.requires.4.ready.last v.keeps.front w _ _ c.with_member.ensures))
+    (ap (λ (z : Group). fit z c.in-Some.j) (member_told _ _ _ _ _ c.args.g _ _ c.requires.4.last v.keeps.front w _ _ c.with_member.ensures))
 
 pub parse_piece-returns-in-Some-clause-keeps : goal.parse_piece-returns-in-Some-clause-keeps
 unfolding Fitting
-parse_piece-returns-in-Some-clause-keeps t c =
-    let p = c.requires.4 in
+parse_piece-returns-in-Some-clause-keeps t c = λ n p.
     let v = looked t (goal.at.parse_piece-returns-in-Some-clause-keeps t c).Joined-stands_at in
     let w = rw c.in-Some.is at v.keeps.within in
-    (w.from, (w.end, member_kept _ _ _ _ _ _ _ _ c.requires.4.ready.last v.keeps.front w _ p _ c.is_specifier_at.ensures _ c.with_member.ensures))
+    (w.from, (w.end, member_kept _ _ _ _ _ _ _ _ c.requires.4.last v.keeps.front w _ p _ c.is_specifier_at.ensures _ c.with_member.ensures))
 
 pub parse_piece-returns-in-None-clause-cells_after : goal.parse_piece-returns-in-None-clause-cells_after
 unfolding told ◌or_else◌ ◌then◌ tell_pieces
 parse_piece-returns-in-None-clause-cells_after t c =
     let v = looked t (goal.at.parse_piece-returns-in-None-clause-cells_after t c).Joined-stands_at in
     rw (piece_is, ← v.told, c.in-None.is)
-    (c.parse_plain_piece.ensures.cells_after ∙ ap (plain_piece c.args.t.now c.args.to c.args.from) (pieces_same _ _ c.args.g c.requires.4.ready.last v.keeps.front))
+    (c.parse_plain_piece.ensures.cells_after ∙ ap (plain_piece c.args.t.now c.args.to c.args.from) (pieces_same _ _ c.args.g c.requires.4.last v.keeps.front))
 
 pub parse_piece-returns-in-None-clause-keeps : goal.parse_piece-returns-in-None-clause-keeps
-parse_piece-returns-in-None-clause-keeps t c =
-    let p = c.requires.4 in
+parse_piece-returns-in-None-clause-keeps t c = λ n p.
     let v = looked t (goal.at.parse_piece-returns-in-None-clause-keeps t c).Joined-stands_at in
     c.parse_plain_piece.ensures.keeps _ _ (pieces_after _ _ _ _ _ p v.keeps.front)

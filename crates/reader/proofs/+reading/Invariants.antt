@@ -26,8 +26,7 @@ decreases-parse_piece l = 4 * (l.left + (l.to - l.from)) + 1
 abbrev pub invariant-further_items-loop-cells : goal.invariant-further_items-loop-cells
 invariant-further_items-loop-cells l =
     ((l.from ≤ l.j) × (l.j ≤ l.to) × (length l.cells ≡ length l.initial.cells))
-    × (take l.n l.cells ≡ take l.n l.initial.cells)
-    × ItemsKeep l.n l.link (l.left + 1) l.cells l.c
+    × ((n : ℕ) → ItemsKeep n l.link (l.left + 1) l.initial.cells l.initial.c → (take n l.cells ≡ take n l.initial.cells) × ItemsKeep n l.link (l.left + 1) l.cells l.c)
     × ((m : ℕ) → l.to - l.from ≤ m → (k : ℕ) × (l.to - l.j ≤ k) × (further (separator l.even) l.t l.to (item_at l.even l.t (group_at l.t (brace_at l.t (inside_at l.left (not l.even) l.t))) l.to) k l.j (tell_items l.c l.cells) ≡ further (separator l.even) l.t l.to (item_at l.even l.t (group_at l.t (brace_at l.t (inside_at l.left (not l.even) l.t))) l.to) m l.from (tell_items l.initial.c l.initial.cells)))
 
 abbrev pub decreases-further_items-loop-cells : goal.decreases-further_items-loop-cells

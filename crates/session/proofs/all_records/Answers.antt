@@ -34,10 +34,7 @@ pub put_records-requires : goal.put_records-requires
 put_records-requires c =
     let s = lines_by c.args.reading.now (records_of c.args.sheet.now) in
     let e = c.records_length-len.ensures.0 in
-    record {
-      served = c.requires;
-      n_in_bounds = omega (arith, e, c.if-out-len.false);
-    }
+    omega (arith, e, c.if-out-len.false)
 
 pub returns : goal.returns
 unfolding Packable

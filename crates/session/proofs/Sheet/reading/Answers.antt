@@ -1,15 +1,10 @@
 -- `session::Sheet::reading` meets its contract. Assumes nothing.
-use Rattle.std.proofs.Common.{refl, ap, ◌∙◌}
-use Rattle.settings.specs.Bits.{settings_of, form_of}
+use Rattle.std.proofs.Common.{sym, subst, ◌∙◌, List, ℕ}
+use Rattle.answer.specs.Maker.{maker_of, IsRead}
 use Rattle.session.proofs.Sheet.reading.Goals as goal
 
+pub new-requires : goal.new-requires
+new-requires c = subst (λ (t : List ℕ). IsRead t c.args.cells.now c.args.n) (sym c.template.ensures) c.requires
+
 pub returns : goal.returns
-returns c =
-    let byte = c.settings-settings.ensures.byte in
-    record {
-      form = c.form_of.ensures ∙ ap form_of byte;
-      settings = c.settings_of.ensures ∙ ap settings_of byte;
-      template = c.template.ensures;
-      pool = refl;
-      count = refl;
-    }
+returns c = c.new.ensures ∙ (λ k. maker_of (c.settings.ensures.byte k) (c.template.ensures k) c.args.cells.now c.args.n)

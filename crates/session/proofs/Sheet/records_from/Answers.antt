@@ -13,8 +13,8 @@ pub overflow_add-result : goal.overflow_add-result
 unfolding records_from
 overflow_add-result c =
     let h = headed_at c.self.inside.bytes.now c.self.invariant in
-    omega (arith, h.byte, h.end, h.short, c.contents_end.ensures, c.body_length.ensures.0, ap contents_end c.self.view_is)
+    omega (arith, h.byte, h.end, h.short, c.contents_end.ensures.place, c.body_length.ensures.0, ap contents_end c.self.view_is)
 
 pub returns : goal.returns
 unfolding records_from
-returns c = omega (arith, c.contents_end.ensures, c.body_length.ensures.0, ap records_from c.self.view_is, ap contents_end c.self.view_is)
+returns c = omega (arith, c.contents_end.ensures.place, c.body_length.ensures.0, ap records_from c.self.view_is, ap contents_end c.self.view_is)

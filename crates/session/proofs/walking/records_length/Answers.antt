@@ -1,7 +1,7 @@
 -- `session::walking::records_length` meets its contract. Assumes nothing.
-use Rattle.std.proofs.Common.{◌≡◌, ◌∙◌, sym, ap, subst, length, List, ℕ, arith}
-use Rattle.session.specs.Walking.{records_of, Served, lines_by}
-use Rattle.session.proofs.Places.{served_more, lines_count, lines_end}
+use Rattle.std.proofs.Common.{◌≡◌, ◌∙◌, sym, ap, length, List, ℕ, arith}
+use Rattle.session.specs.Walking.{records_of, lines_by}
+use Rattle.session.proofs.Places.{lines_count, lines_end}
 use Rattle.session.proofs.walking.records_length.Goals as goal
 
 pub loop-body-init : goal.loop-body-init
@@ -9,13 +9,9 @@ loop-body-init c =
     let r = c.args.reading.now in
     let e : c.into_iter-body-iterator.result ≡ records_of c.args.sheet.now = c.into_iter-body-iterator.ensures.into_iter_gives ∙ c.records-body-items.ensures.records in
     record {
-      served = subst (Served r) (sym e) c.requires;
       counted = omega (arith, ap (λ (x : List (List ℕ)). length (lines_by r x)) e);
       most = omega (arith, c.records-body-items.ensures.few, ap length c.records-body-items.ensures.records, ap length e);
     }
-
-pub outcome_length-sum-requires : goal.outcome_length-sum-requires
-outcome_length-sum-requires c = (served_more c.args.reading.now _ _ _ c.in-Some.ensures.steps c.loop-body.invariant.served).0
 
 pub overflow_add-sum : goal.overflow_add-sum
 overflow_add-sum c = omega (arith, c.loop-body.invariant.most, c.outcome_length-sum.ensures.1, ap length c.in-Some.ensures.steps)
@@ -25,7 +21,6 @@ loop-body-preserved c =
     let r = c.args.reading.now in
     let e = c.in-Some.ensures.steps in
     record {
-      served = (served_more r _ _ _ e c.loop-body.invariant.served).1;
       counted = omega (arith, c.loop-body.invariant.counted, c.outcome_length-sum.ensures.0, lines_count r _ _ _ e);
       most = omega (arith, c.loop-body.invariant.most, c.outcome_length-sum.ensures.1, ap length e);
     }

@@ -1,7 +1,7 @@
 -- `file_name` meets its contract. Assumes nothing.
 use native.Mathlib.Omega.{arith}
-use Prim.Native.Nat.{◌-◌}
-use mathlib.Core.Path.{sym, ap, ◌∙◌}
+use mathlib.Core.Path.{◌≡◌, sym, ap, ◌∙◌}
+use lib.ListN.{length}
 use Rattle.buffer.specs.Bytes.{part}
 use Rattle.buffer.proofs.Parts.{part_length}
 use Rattle.words.specs.Within.{told}
@@ -15,11 +15,11 @@ pub returns-then-to-from-clause-result_value : goal.returns-then-to-from-clause-
 unfolding told
 returns-then-to-from-clause-result_value c =
     let a = c.args in
+    let l = part_length a.t.now a.from a.to (omega arith) (omega arith) in
     elim c.then-to-from.branch [
       | then-to-from-via-then-to-from w ↦ sym (no_name a.to a.t.now a.from a.to w.if-to-from.true)
       | then-to-from-via-else-to-from+then-not-is_repeated_f w ↦
-          sym (sensed_misfit _ _ (other_name (part a.from a.to a.t.now) (a.to - a.from) (part_length a.t.now a.from a.to (omega arith) (omega arith)) c.requires.2
-          (sym w.is_repeated_f.ensures ∙ w.if-not-is_repeated_f.true)))
+          sym (sensed_misfit _ _ (other_name (part a.from a.to a.t.now) (λ q. c.requires.2 (sym l ∙ q)) (sym w.is_repeated_f.ensures ∙ w.if-not-is_repeated_f.true)))
     ]
 
 pub returns-in_default-clause-result_value : goal.returns-in_default-clause-result_value
@@ -27,13 +27,15 @@ unfolding told
 returns-in_default-clause-result_value c =
     let a = c.args in
     let h = c.in_default.ensures in
-    sym (sensed_refused _ _ _ (too_many_f (part a.from a.to a.t.now) (a.to - a.from) (part_length a.t.now a.from a.to (omega arith) (omega arith)) c.requires.2
-    (sym c.is_repeated_f.ensures ∙ c.if-not-is_repeated_f.false) (omega arith)))
+    let l = part_length a.t.now a.from a.to (omega arith) (omega arith) in
+    sym (sensed_refused _ _ _ (too_many_f (part a.from a.to a.t.now) (λ q. c.requires.2 (sym l ∙ q)) (sym c.is_repeated_f.ensures ∙ c.if-not-is_repeated_f.false) (omega arith)))
 
 pub returns-clause-result_value : goal.returns-clause-result_value
 unfolding told
 returns-clause-result_value c =
     let a = c.args in
     let h = c.in-Ok.ensures in
-    ap (λ n. fit (FileName n) a.to) h.1 ∙ sym (sensed_fit _ _ _ (file_name_lem (part a.from a.to a.t.now) (a.to - a.from) (part_length a.t.now a.from a.to (omega arith) (omega arith)) c.requires.2
+    let l = part_length a.t.now a.from a.to (omega arith) (omega arith) in
+    let k : c.in-Ok.n ≡ length (part a.from a.to a.t.now) = omega arith in
+    ap (λ n. fit (FileName n) a.to) k ∙ sym (sensed_fit _ _ _ (file_name_lem (part a.from a.to a.t.now) (λ q. c.requires.2 (sym l ∙ q))
     (sym c.is_repeated_f.ensures ∙ c.if-not-is_repeated_f.false) (omega arith) (omega arith)))

@@ -9,11 +9,10 @@ pub returns-then-j-from-clause-result_value : goal.returns-then-j-from-clause-re
 unfolding told
 returns-then-j-from-clause-result_value c = sym (digits_none _ _ _ _ _ c.digits_end-j.ensures.value c.if-j-from.true)
 
-pub returns-then-n-gt-WIDEST-clause-result_value : goal.returns-then-n-gt-WIDEST-clause-result_value
+pub returns-in_default-clause-result_value : goal.returns-in_default-clause-result_value
 unfolding told
-returns-then-n-gt-WIDEST-clause-result_value c = sym (digits_wide _ _ _ _ _ c.digits_end-j.ensures.value c.if-j-from.false _ c.width-n.ensures c.if-n-gt-WIDEST.true)
+returns-in_default-clause-result_value c = sym (digits_wide _ _ _ _ _ c.digits_end-j.ensures.value c.if-j-from.false c.in_default.ensures)
 
 pub returns-clause-result_value : goal.returns-clause-result_value
 unfolding told
-returns-clause-result_value c =
-    sym (digits_fit _ _ _ _ _ c.digits_end-j.ensures.value c.if-j-from.false (omega arith) _ c.width-n.ensures c.if-n-gt-WIDEST.false _ c.padding-z.ensures)
+returns-clause-result_value c = sym (digits_fit _ _ _ _ _ c.digits_end-j.ensures.value c.if-j-from.false (omega arith) _ c.in-Some.ensures _ c.padding-z.ensures)

@@ -1,24 +1,29 @@
--- `parse_style` meets its contract: by the laws of looking up. Assumes nothing.
-use Rattle.std.proofs.Common.{◌∙◌, sym, ap, refl, [], ◌∷◌}
-use Rattle.spelling.specs.Tables.{compared}
-use Rattle.spelling.proofs.Indexing.{listed_below}
-use Rattle.words.specs.declared.Parameter.{Parameter}
-use Rattle.words.specs.declared.Style.TheVariants.{Bold, Italic, Underline, Strike, Dimmed}
+-- `parse_style` meets its contract: a word that an arm knows is the table's. Assumes nothing.
+use native.Mathlib.Omega.{arith}
+use mathlib.Core.Path.{sym, ap}
+use Rattle.std.proofs.lemmas.Slice.Eq.{text_from_reads}
+use Rattle.buffer.specs.Bytes.{bytes, same}
+use Rattle.buffer.specs.Table.{lookup}
 use Rattle.words.specs.Within.{found}
 use Rattle.words.specs.Words.{styles}
-use Rattle.words.proofs.Listing.{not_found, value_found}
 use Rattle.words.proofs.parser.parse_style.Goals as goal
 
-pub returns-in_err-i : goal.returns-in_err-i
-unfolding compared
-returns-in_err-i c = ap (found Parameter.Style) c.from_residual.ensures ∙ not_found Parameter.Style styles _ (sym c.in_err-i.was ∙ c.word_index.ensures)
+pub returns-in-bold : goal.returns-in-bold
+unfolding found lookup same
+returns-in-bold c = sym (ap (lookup styles) (text_from_reads c.args.word.now (bytes "bold") (omega arith) (omega arith)))
 
-pub bounds-i-i : goal.bounds-i-i
-unfolding compared
-bounds-i-i c = listed_below styles _ c.in_ok-i.i (sym c.in_ok-i.was ∙ c.word_index.ensures)
+pub returns-in-italic : goal.returns-in-italic
+unfolding found lookup same
+returns-in-italic c = sym (ap (lookup styles) (text_from_reads c.args.word.now (bytes "italic") (omega arith) (omega arith)))
 
-pub returns : goal.returns
-unfolding compared
-returns c =
-    let values = Bold ∷ Italic ∷ Underline ∷ Strike ∷ Dimmed ∷ [] in
-    value_found Parameter.Style styles _ values refl _ (sym c.in_ok-i.was ∙ c.word_index.ensures) Bold
+pub returns-in-underline : goal.returns-in-underline
+unfolding found lookup same
+returns-in-underline c = sym (ap (lookup styles) (text_from_reads c.args.word.now (bytes "underline") (omega arith) (omega arith)))
+
+pub returns-in-strike : goal.returns-in-strike
+unfolding found lookup same
+returns-in-strike c = sym (ap (lookup styles) (text_from_reads c.args.word.now (bytes "strike") (omega arith) (omega arith)))
+
+pub returns-in-dimmed : goal.returns-in-dimmed
+unfolding found lookup same
+returns-in-dimmed c = sym (ap (lookup styles) (text_from_reads c.args.word.now (bytes "dimmed") (omega arith) (omega arith)))

@@ -1,9 +1,0 @@
--- `width` meets its contract: the loop keeps what the digits so far and those from here on say. Assumes nothing.
-use Prim.Native.Nat.{◌≤◌}
-use mathlib.Core.Path.{◌≡◌}
-use lib.ListN.{drop}
-use Rattle.runs.specs.Runs.{decimal}
-use Rattle.runs.proofs.numbers.width.Given as goal
-
-abbrev pub invariant-loop-b : goal.invariant-loop-b
-invariant-loop-b l = (l.n ≤ 512) × (decimal l.n (drop l.b-index l.b-items) ≡ decimal 0 l.b-items)
